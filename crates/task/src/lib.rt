@@ -1,0 +1,7 @@
+// Task sources, what their operators do, and plans.
+pub mod fault;
+pub mod moves;
+pub mod plan;
+pub mod refusal;
+pub mod ring;
+pub mod source;
