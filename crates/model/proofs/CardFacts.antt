@@ -1,18 +1,16 @@
--- The task of a card keeps the limits, and a card's chains are whole.
+-- The task of a card keeps the limits.
 use mathlib.Core.Path.{_≡_, refl, sym, ap, subst, _∙_}
 use mathlib.Core.Bool.{Bool, true, false, cond}
 use mathlib.Core.List.{List, [], _∷_}
 use mathlib.Core.Logic.{_⊎_, inl, inr, ⊎-elim}
-use Prim.Native.Nat.{ℕ, zero, suc, _+_, _-_, _*_, _≤_, _<_}
+use Prim.Native.Nat.{ℕ, zero, suc, _+_, _*_, _≤_, _<_}
 use native.Mathlib.Omega.{arith}
 use lib.Dec.{ltb, eqb}
-use lib.ListN.{length}
 use Rattle.std.proofs.shelf.Tests.{cases-lt, cond-both, cond-true, cond-false, lt-ltb, le-ltb, eqb-true, eqb-false}
-use Rattle.std.specs.shelf.Lists.{All}
 use Rattle.std.specs.declared.option.Option.{Option}
 use Rattle.std.specs.declared.option.Option.the-variants.{Some, None}
 use Rattle.model.specs.Tasks.{Task, Lawful, Within}
-use Rattle.model.specs.Card.{word, variables, operators, records, sizeAt, startAt, goalAt, neededAt, madeAt, variableOf, valueOf, nextOf, Chain, chain, valueIn, chained, card, Counts, Sizes, Starts, Heads, IsRecord, Nexts, Records, Ascends, Rising, WholeChain}
+use Rattle.model.specs.Card.{word, variables, operators, records, sizeAt, startAt, goalAt, neededAt, madeAt, variableOf, valueOf, nextOf, chain, valueIn, chained, card, Counts, Sizes, Starts, Heads, IsRecord, Nexts, Records}
 use Rattle.model.proofs.Options.{none≢some, some-same, within-from, none-from}
 
 -- ---- the value that a chain gives is that of one of its records
@@ -100,8 +98,8 @@ module _ (ws : List ℕ) (counts : Counts ws) (sizes : Sizes ws) (starts : Start
 
   pub card-lawful : Lawful (card ws)
   card-lawful = record {
-    variables = (counts .1, counts .2);
-    operators = counts .3;
+    variables = (counts .0, counts .1);
+    operators = counts .2;
     sizes = sizes-in;
     outside = size-out;
     starts = starts-in;
@@ -112,40 +110,3 @@ module _ (ws : List ℕ) (counts : Counts ws) (sizes : Sizes ws) (starts : Start
     no-makes = has-none (madeAt ws) made-head;
     no-goals = λ v h. none-beyond (goalAt ws) v goal-head h;
   }
-
--- ---- chains
-
--- a chain of so many records at most has no more
-chain-few : (ws : List ℕ) (i k : ℕ) → length (chain i ws k) ≤ i
-chain-few ws zero k = omega arith
-chain-few ws (suc i) k = cond-both (eqb k 0) [] (k ∷ chain i ws (nextOf ws k)) (λ ks. length ks ≤ suc i) (λ z. omega arith) (λ z. omega (arith, chain-few ws i (nextOf ws k)))
-
-module _ (ws : List ℕ) (nexts : Nexts ws) (recs : Records ws) (ascends : Ascends ws) where
-  -- i more records are enough where the variables up to n are at most i
-  ends : (i k : ℕ) → k ≤ records ws → (1 ≤ k → variables ws ≤ variableOf ws k + i) → Chain ws k (chain i ws k)
-  ends zero k h far = ⊎-elim (λ z. omega arith) (λ l. absurd (omega (arith, far l, recs k (l, h)))) (cases-lt k 1)
-  ends (suc i) k h far = cond-both (eqb k 0) [] (k ∷ chain i ws (nextOf ws k)) (λ ks. Chain ws k ks)
-      (λ z. eqb-true k 0 z)
-      (λ z.
-      let low : 1 ≤ k = omega (arith, eqb-false k 0 z) in
-      (low, refl, ends i (nextOf ws k) (nexts k (low, h)) (λ l. omega (arith, far low, ascends k (low, h) l))))
-
-  -- the variables after k are above k's
-  above : (i k b : ℕ) → k ≤ records ws → (1 ≤ k → b < variableOf ws k) → All (λ j. b < variableOf ws j) (chain i ws k)
-  above zero k b h far = tt
-  above (suc i) k b h far = cond-both (eqb k 0) [] (k ∷ chain i ws (nextOf ws k)) (λ ks. All (λ j. b < variableOf ws j) ks)
-      (λ z. tt)
-      (λ z.
-      let low : 1 ≤ k = omega (arith, eqb-false k 0 z) in
-      (far low, above i (nextOf ws k) b (nexts k (low, h)) (λ l. omega (arith, far low, ascends k (low, h) l))))
-
-  rises : (i k : ℕ) → k ≤ records ws → Rising ws (chain i ws k)
-  rises zero k h = tt
-  rises (suc i) k h = cond-both (eqb k 0) [] (k ∷ chain i ws (nextOf ws k)) (λ ks. Rising ws ks)
-      (λ z. tt)
-      (λ z.
-      let low : 1 ≤ k = omega (arith, eqb-false k 0 z) in
-      (above i (nextOf ws k) (variableOf ws k) (nexts k (low, h)) (ascends k (low, h)), rises i (nextOf ws k) (nexts k (low, h))))
-
-  pub chain-whole : (k : ℕ) → k ≤ records ws → WholeChain ws k
-  chain-whole k h = (ends (variables ws) k h (λ l. omega arith), chain-few ws (variables ws) k, rises (variables ws) k h)

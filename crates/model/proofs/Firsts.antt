@@ -5,6 +5,7 @@ use mathlib.Core.Logic.{_⊎_, inl, inr, ⊎-elim}
 use Prim.Native.Nat.{ℕ, suc, _+_, _≤_, _<_}
 use native.Mathlib.Omega.{arith}
 use Rattle.std.proofs.shelf.Tests.{cases-lt, cases-eq}
+use Rattle.std.specs.declared.option.Option.{Option}
 use Rattle.std.specs.declared.option.Option.the-variants.{Some, None}
 use Rattle.model.specs.Orders.{Earlier, First, Least}
 
@@ -52,3 +53,9 @@ module _ {A : Type 0} (number place : A → ℕ) (fault : ℕ → ℕ → A) (ba
       (λ l. low a (omega arith) w)
       (λ h. ⊎-elim (λ l. least .1 (place a) (omega arith) (at-number k a (omega (arith, h .0)) w)) (λ q. q .1) (h .1))
       e)
+
+-- ---- the least number of one of two kinds, where there is none of the first kind
+
+pub least-right : (P Q : ℕ → Type 0) (r : Option ℕ) → ((i : ℕ) → P i → ⊥) → Least Q r → Least (λ i. P i ⊎ Q i) r
+least-right P Q None none h = λ i. ⊎-elim (none i) (h i)
+least-right P Q (Some i) none h = (inr (h .0), λ j l. ⊎-elim (none j) (h .1 j l))

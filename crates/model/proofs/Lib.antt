@@ -5,3 +5,4 @@ pub mod Leading
 pub mod Firsts
 pub mod RingFacts
 pub mod CardFacts
+pub mod Chains

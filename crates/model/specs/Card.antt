@@ -100,8 +100,14 @@ card ws = record {
 
 -- ---- when words are a card
 
+abbrev pub Version : List ℕ → Type 0
+Version ws = word ws 0 ≡ 1
+
 abbrev pub Counts : List ℕ → Type 0
-Counts ws = (word ws 0 ≡ 1) × (1 ≤ variables ws) × (variables ws ≤ 32) × (operators ws ≤ 1024) × (records ws ≤ 8192) × (length ws ≡ cardLength ws)
+Counts ws = (1 ≤ variables ws) × (variables ws ≤ 32) × (operators ws ≤ 1024) × (records ws ≤ 8192)
+
+abbrev pub Length : List ℕ → Type 0
+Length ws = length ws ≡ cardLength ws
 
 abbrev pub Sizes : List ℕ → Type 0
 Sizes ws = (v : ℕ) → v < variables ws → (1 ≤ word ws (sizeAt ws v)) × (word ws (sizeAt ws v) ≤ 64)
@@ -128,7 +134,9 @@ Ascends ws = (k : ℕ) → IsRecord ws k → 1 ≤ nextOf ws k → variableOf ws
 
 -- nothing is wrong with the words
 pub record IsCard (ws : List ℕ) : Type 0 where
+  pub version : Version ws
   pub counts : Counts ws
+  pub long : Length ws
   pub sizes : Sizes ws
   pub starts : Starts ws
   pub heads : Heads ws

@@ -5,3 +5,4 @@ pub mod plan;
 pub mod refusal;
 pub mod ring;
 pub mod source;
+pub mod words;

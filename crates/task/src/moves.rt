@@ -1,20 +1,13 @@
 // What operators do to a position, which is a slice of values: one for each variable, and 0 past its end.
 ghost use mathlib.Core.Path.{_≡_};
-ghost use lib.ListN.{getD};
 ghost use Rattle.std.specs.Orderings.{Decides};
 ghost use Rattle.model.specs.Tasks.{Applies, Holds, position, advanced};
 ghost use Rattle.model.specs.Orders.{Least};
 use crate::source::TaskSource;
+use crate::words::word;
 
 // The most variables that a task has.
 pub const MAX_VARIABLES: usize = 32;
-
-// The value of the variable v.
-pub fn value_at(values: &[u16], v: usize) -> u16
-    ensures { λ r. ⌜ r ≡ getD (now (values .entry)) v 0 ⌝ }
-{
-    if v < values.len() { values[v] } else { 0 }
-}
 
 // Whether each value that the operator o needs is present.
 pub fn applies<S: TaskSource>(source: &S, o: usize, values: &[u16]) -> bool
@@ -24,7 +17,7 @@ pub fn applies<S: TaskSource>(source: &S, o: usize, values: &[u16]) -> bool
         let Some(x) = source.needed(o, v) else {
             continue;
         };
-        if value_at(values, v) != x {
+        if word(values, v) != x {
             return false;
         }
     }
@@ -62,7 +55,7 @@ pub fn missed_goal<S: TaskSource>(source: &S, values: &[u16]) -> Option<usize>
         let Some(x) = source.goal(v) else {
             continue;
         };
-        if value_at(values, v) != x {
+        if word(values, v) != x {
             return Some(v);
         }
     }

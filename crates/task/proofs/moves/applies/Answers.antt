@@ -6,13 +6,13 @@ use Rattle.model.proofs.Options.{holds-some}
 use Rattle.model.proofs.Positions.{applies-below, applies-needs}
 use Rattle.task.proofs.moves.applies.Needs as need
 
-pub returns-then-value-at-x : need.returns-then-value-at-x
-returns-then-value-at-x g c =
+pub returns-then-word-x : need.returns-then-word-x
+returns-then-word-x g c =
     let t = g .S·TaskSource .task (c .args .source .now) in
     let p = position (c .args .values .now) in
     let v = c .loop-v .v in
     (λ e. absurd (false≢true e),
-    λ h. absurd (c .if-value-at-x .taken (c .value-at .ensures ∙ holds-some (t .needed (c .args .o) v) (p v) (c .in-Some .x) (sym (c .in-Some .ensures tt)) (applies-needs t (c .args .o) p h v))))
+    λ h. absurd (c .if-word-x .taken (c .word .ensures ∙ holds-some (t .needed (c .args .o) v) (p v) (c .in-Some .x) (sym (c .in-Some .ensures tt)) (applies-needs t (c .args .o) p h v))))
 
 pub returns : need.returns
 returns g c =
