@@ -15,7 +15,9 @@ use task::moves::MAX_VARIABLES;
 use task::words::word;
 
 const MAX_OPERATORS: usize = 1024;
+
 const MAX_RECORDS: u16 = 8192;
+
 const MAX_SIZE: u16 = 64;
 
 fn bad_count(words: &[u16]) -> Option<usize>

@@ -41,6 +41,10 @@ pub impl Fault for CardFault as CardFaultTold {
             CardFault::BadRecord(i) => (8, i),
             CardFault::BadOrder(i) => (9, i),
         };
-        Refusal { number, layer: Layer::Card, place: (at, 0) }
+        Refusal {
+            number,
+            layer: Layer::Card,
+            place: (at, 0),
+        }
     }
 }

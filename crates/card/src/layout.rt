@@ -33,14 +33,22 @@ pub(crate) fn goal_at(words: &[u16]) -> usize
 pub(crate) fn record_at(words: &[u16], k: u16) -> usize
     ensures { λ r. ⌜ r ≡ recordAt (now (words .entry)) k ⌝ ∗ ⌜ r < 2 ^ 20 ⌝ }
 {
-    4 + 2 * (word(words, 1) as usize) + 1 + 2 * (word(words, 2) as usize) + 3 * (k.saturating_sub(1) as usize)
+    4
+        + 2 * (word(words, 1) as usize)
+        + 1
+        + 2 * (word(words, 2) as usize)
+        + 3 * (k.saturating_sub(1) as usize)
 }
 
 // How many words the counts ask for.
 pub(crate) fn card_length(words: &[u16]) -> usize
     ensures { λ r. ⌜ r ≡ cardLength (now (words .entry)) ⌝ }
 {
-    4 + 2 * (word(words, 1) as usize) + 1 + 2 * (word(words, 2) as usize) + 3 * (word(words, 3) as usize)
+    4
+        + 2 * (word(words, 1) as usize)
+        + 1
+        + 2 * (word(words, 2) as usize)
+        + 3 * (word(words, 3) as usize)
 }
 
 // The value of v in the chain whose head stands at `head`. A chain has at most as many records as there are variables.

@@ -1,6 +1,6 @@
 // Cards: tasks written as 16-bit words, and the reader that accepts them.
-pub mod fault;
 mod check;
+pub mod fault;
 mod layout;
 mod read;
 

@@ -90,7 +90,11 @@ pub impl<'a> TaskSource for Card<'a> as CardSource {
 
     fn start(&self, v: usize) -> Option<u16> {
         let n = variables(self.words);
-        if v < n { Some(word(self.words, 4 + n + v)) } else { None }
+        if v < n {
+            Some(word(self.words, 4 + n + v))
+        } else {
+            None
+        }
     }
 
     fn goal(&self, v: usize) -> Option<u16> {

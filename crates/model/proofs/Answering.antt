@@ -45,7 +45,13 @@ module _ (t u : Task) (law-t : Lawful t) (law-u : Lawful u) (e : Alike t u) wher
 
 alike-self : (t : Task) → Alike t t
 alike-self t = record {
-  variables = refl; operators = refl; size = λ v. refl; needed = λ o v. refl; made = λ o v. refl; start = λ v. refl; goal = λ v. refl;
+  variables = refl;
+  operators = refl;
+  size = λ v. refl;
+  needed = λ o v. refl;
+  made = λ o v. refl;
+  start = λ v. refl;
+  goal = λ v. refl;
 }
 
 pub alike-when-same : (t u : Task) → Lawful t → Lawful u → Alike t u ↔ (t ≡ u)

@@ -49,10 +49,13 @@ module _ {A : Type 0} (number place : A → ℕ) (fault : ℕ → ℕ → A) (ba
   none-more k low none a h w = ⊎-elim (λ e. none (place a) (at-number k a e w)) (λ n. low a (omega arith) w) (cases-eq (number a) k)
 
   pub first-at : (k i : ℕ) → NoneBelow k → Least (λ j. W (fault k j)) (Some i) → number (fault k i) ≡ k → place (fault k i) ≡ i → First turn W (fault k i)
-  first-at k i low least n p = (least .0, λ a w e. ⊎-elim
-      (λ l. low a (omega arith) w)
-      (λ h. ⊎-elim (λ l. least .1 (place a) (omega arith) (at-number k a (omega (arith, h .0)) w)) (λ q. q .1) (h .1))
-      e)
+  first-at k i low least n p = (
+    least .0,
+    λ a w e. ⊎-elim
+        (λ l. low a (omega arith) w)
+        (λ h. ⊎-elim (λ l. least .1 (place a) (omega arith) (at-number k a (omega (arith, h .0)) w)) (λ q. q .1) (h .1))
+        e,
+  )
 
 -- ---- the least number of one of two kinds, where there is none of the first kind
 

@@ -28,7 +28,11 @@ pub impl Fault for PlanFault as PlanFaultTold {
             PlanFault::DoesNotApply(i) => (17, i),
             PlanFault::MissesGoal(v) => (18, v),
         };
-        Refusal { number, layer: Layer::Register, place: (at, 0) }
+        Refusal {
+            number,
+            layer: Layer::Register,
+            place: (at, 0),
+        }
     }
 }
 
@@ -43,6 +47,10 @@ pub impl Fault for RingFault as RingFaultTold {
 
     fn refusal(&self) -> Refusal {
         let RingFault::Places(n) = *self;
-        Refusal { number: 20, layer: Layer::Reduction, place: (n, 0) }
+        Refusal {
+            number: 20,
+            layer: Layer::Reduction,
+            place: (n, 0),
+        }
     }
 }

@@ -29,7 +29,10 @@ fn unknown_operator<S: TaskSource>(source: &S, operators: &[u16]) -> Option<usiz
 }
 
 // The position that the operators lead to from the start, each applied in its turn.
-pub fn follow<S: TaskSource>(source: &S, operators: &[u16]) -> Result<[u16; MAX_VARIABLES], PlanFault>
+pub fn follow<S: TaskSource>(
+    source: &S,
+    operators: &[u16],
+) -> Result<[u16; MAX_VARIABLES], PlanFault>
     ensures reaches { λ r. ⌜ Follows (S·TaskSource .task (now (source .entry))) (now (operators .entry)) r ⌝ }
     ensures exact { λ r. ⌜ Decides (isOk r) (Followed (S·TaskSource .task (now (source .entry))) (now (operators .entry))) ⌝ }
 {

@@ -42,5 +42,4 @@ pub trait TaskSource {
 // Two sources answer every question alike exactly when they mean one task.
 pub fn answers_tell_the_task<A: TaskSource, B: TaskSource>(a: &A, b: &B)
     ensures { λ _. ⌜ Alike (A·TaskSource .task (now (a .entry))) (B·TaskSource .task (now (b .entry))) ↔ (A·TaskSource .task (now (a .entry)) ≡ B·TaskSource .task (now (b .entry))) ⌝ }
-{
-}
+{}

@@ -10,9 +10,10 @@ pub returns-then-word-x : need.returns-then-word-x
 returns-then-word-x g c =
     let t = g .S·TaskSource .task (c .args .source .now) in
     let p = position (c .args .values .now) in
-    let v = c .loop-v .v in
-    (λ e. absurd (false≢true e),
-    λ h. absurd (c .if-word-x .taken (c .word .ensures ∙ holds-some (t .needed (c .args .o) v) (p v) (c .in-Some .x) (sym (c .in-Some .ensures tt)) (applies-needs t (c .args .o) p h v))))
+    let v = c .loop-v .v in (
+      λ e. absurd (false≢true e),
+      λ h. absurd (c .if-word-x .taken (c .word .ensures ∙ holds-some (t .needed (c .args .o) v) (p v) (c .in-Some .x) (sym (c .in-Some .ensures tt)) (applies-needs t (c .args .o) p h v))),
+    )
 
 pub returns : need.returns
 returns g c =

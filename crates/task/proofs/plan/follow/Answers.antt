@@ -40,9 +40,10 @@ loop-i-again g c =
     let i = c .loop-i .i in
     let known : getD os i 0 < t .m = ⊎-elim (λ l. l) (λ l. absurd (c .in-rest .ensures tt i (c .loop-i-test .taken, l))) (cases-lt (getD os i 0) (t .m)) in
     let long : t .n ≤ length (c .loop-i .values) = omega (arith, law .variables .1, c .loop-i .inv .0) in
-    let more = follow-more t law os (c .loop-i .values) i (c .loop-i-test .taken) known long (c .loop-i .inv .1) (c .if-not-applies .ensures tt .0 refl) in
-    (ap length (c .advance .ensures) ∙ length-map-counting _ 0 _ ∙ c .loop-i .inv .0,
-    subst (λ xs. Leads t (take (i + 1) os) (t .start) (position xs)) (sym (c .advance .ensures)) more)
+    let more = follow-more t law os (c .loop-i .values) i (c .loop-i-test .taken) known long (c .loop-i .inv .1) (c .if-not-applies .ensures tt .0 refl) in (
+      ap length (c .advance .ensures) ∙ length-map-counting _ 0 _ ∙ c .loop-i .inv .0,
+      subst (λ xs. Leads t (take (i + 1) os) (t .start) (position xs)) (sym (c .advance .ensures)) more,
+    )
 
 pub returns : need.returns
 returns g c =
