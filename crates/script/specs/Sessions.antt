@@ -10,9 +10,9 @@ use Rattle.std.specs.declared.result.Result.{Result}
 use Rattle.std.specs.declared.result.Result.the-variants.{Ok, Err}
 use Rattle.model.specs.Orders.{First}
 use Rattle.model.specs.Card.{IsCard}
-use Rattle.card.specs.declared.fault.CardFault.{CardFault}
-use Rattle.card.specs.Faults.{cardTurn}
-use Rattle.card.specs.Wrong.{CardWrong}
+use Rattle.layout.specs.declared.fault.CardFault.{CardFault}
+use Rattle.layout.specs.Faults.{cardTurn}
+use Rattle.layout.specs.Wrong.{CardWrong}
 use Rattle.script.specs.declared.command.LineFault.{LineFault}
 use Rattle.script.specs.declared.current.Current.{Current}
 use Rattle.script.specs.declared.current.Current.the-variants as current

@@ -3,4 +3,5 @@ pub mod command;
 pub mod current;
 pub mod parse;
 mod report;
+pub mod run;
 pub mod session;

@@ -1,22 +1,16 @@
--- The number, layer and place of each fault of a list of operators and of a ring, and the order in which the former are tried.
+-- The number, layer and place of each fault of a list of operators, and the order in which they are tried.
 use mathlib.Core.List.{List, [], _∷_}
 use Prim.Native.Nat.{ℕ}
 use Rattle.task.specs.declared.refusal.Refusal.{Refusal}
-use Rattle.task.specs.declared.refusal.Layer.{Layer}
-use Rattle.task.specs.declared.refusal.Layer.the-variants.{Reduction, Register}
+use Rattle.task.specs.declared.refusal.Layer.the-variants.{Register}
 use Rattle.task.specs.declared.fault.PlanFault.{PlanFault}
 use Rattle.task.specs.declared.fault.PlanFault.the-variants.{TooLong, NoSuchOperator, DoesNotApply, MissesGoal}
-use Rattle.task.specs.declared.fault.RingFault.{RingFault}
-use Rattle.task.specs.declared.fault.RingFault.the-variants.{Places}
 
 abbrev pub planRefusal : PlanFault → Refusal
 planRefusal TooLong = record { number = 16; layer = Register; place = (16383, 0) }
 planRefusal (NoSuchOperator i) = record { number = 16; layer = Register; place = (i, 0) }
 planRefusal (DoesNotApply i) = record { number = 17; layer = Register; place = (i, 0) }
 planRefusal (MissesGoal v) = record { number = 18; layer = Register; place = (v, 0) }
-
-abbrev pub ringRefusal : RingFault → Refusal
-ringRefusal (Places n) = record { number = 20; layer = Reduction; place = (n, 0) }
 
 -- When a fault is tried, compared at the first difference: by numbers, the length before the operators, and from the lowest place on.
 abbrev pub planTurn : PlanFault → List ℕ

@@ -1,5 +1,5 @@
-// What can be wrong with a list of operators that is to be a plan, and with a ring.
-ghost use Rattle.task.specs.Faults.{planRefusal, ringRefusal};
+// What can be wrong with a list of operators that is to be a plan.
+ghost use Rattle.task.specs.Faults.{planRefusal};
 use crate::refusal::Fault;
 use crate::refusal::Layer;
 use crate::refusal::Refusal;
@@ -32,25 +32,6 @@ pub impl Fault for PlanFault as PlanFaultTold {
             number,
             layer: Layer::Register,
             place: (at, 0),
-        }
-    }
-}
-
-#[derive(Clone, Copy, Debug)]
-pub enum RingFault {
-    // a ring has 1 to 32 places, and not this many
-    Places(usize),
-}
-
-pub impl Fault for RingFault as RingFaultTold {
-    ghost told = { ringRefusal };
-
-    fn refusal(&self) -> Refusal {
-        let RingFault::Places(n) = *self;
-        Refusal {
-            number: 20,
-            layer: Layer::Reduction,
-            place: (n, 0),
         }
     }
 }

@@ -3,6 +3,5 @@ pub mod fault;
 pub mod moves;
 pub mod plan;
 pub mod refusal;
-pub mod ring;
 pub mod source;
 pub mod words;

@@ -51,7 +51,8 @@ pub fn start_position<S: TaskSource>(source: &S) -> [u16; MAX_VARIABLES]
 pub fn missed_goal<S: TaskSource>(source: &S, values: &[u16]) -> Option<usize>
     ensures { λ r. ⌜ Least (λ v. Holds (S·TaskSource .task (now (source .entry)) .goal v) (position (now (values .entry)) v) → ⊥) r ⌝ }
 {
-    for v in 0..source.variables() {
+    let n = source.variables();
+    for v in 0..n {
         let Some(x) = source.goal(v) else {
             continue;
         };

@@ -4,6 +4,7 @@ ghost use Prim.Native.Nat.{_≤_, _<_};
 ghost use lib.ListN.{length, getD};
 ghost use Rattle.std.specs.Orderings.{Decides};
 ghost use Rattle.std.specs.Results.{isOk};
+ghost use Rattle.model.specs.Tasks.{Leads, position};
 ghost use Rattle.model.specs.Orders.{Least};
 ghost use Rattle.task.specs.Plans.{Follows, Followed, Judges, Accepted};
 use crate::fault::MAX_PLAN;
@@ -43,7 +44,8 @@ pub fn follow<S: TaskSource>(
         return Err(PlanFault::NoSuchOperator(i));
     }
     let mut values = start_position(source);
-    for i in 0..operators.len() {
+    let steps = operators.len();
+    for i in 0..steps {
         let o = operators[i] as usize;
         if !applies(source, o, &values) {
             return Err(PlanFault::DoesNotApply(i));
@@ -53,14 +55,23 @@ pub fn follow<S: TaskSource>(
     Ok(values)
 }
 
+// What the check of a plan answers whose operators lead to these values.
+fn judge<S: TaskSource>(source: &S, operators: &[u16], values: &[u16]) -> Result<usize, PlanFault>
+    requires { ⌜ length (now operators) ≤ 16383 ⌝ ∗ ⌜ Leads (S·TaskSource .task (now source)) (now operators) (S·TaskSource .task (now source) .start) (position (now values)) ⌝ }
+    ensures judges { λ r. ⌜ Judges (S·TaskSource .task (now (source .entry))) (now (operators .entry)) r ⌝ }
+    ensures exact { λ r. ⌜ Decides (isOk r) (Accepted (S·TaskSource .task (now (source .entry))) (now (operators .entry))) ⌝ }
+{
+    match missed_goal(source, values) {
+        Some(v) => Err(PlanFault::MissesGoal(v)),
+        None => Ok(operators.len()),
+    }
+}
+
 // Accepts exactly the plans of at most 16,383 operators, and answers the plan's length.
 pub fn check_plan<S: TaskSource>(source: &S, operators: &[u16]) -> Result<usize, PlanFault>
     ensures judges { λ r. ⌜ Judges (S·TaskSource .task (now (source .entry))) (now (operators .entry)) r ⌝ }
     ensures exact { λ r. ⌜ Decides (isOk r) (Accepted (S·TaskSource .task (now (source .entry))) (now (operators .entry))) ⌝ }
 {
     let values = follow(source, operators)?;
-    match missed_goal(source, &values) {
-        Some(v) => Err(PlanFault::MissesGoal(v)),
-        None => Ok(operators.len()),
-    }
+    judge(source, operators, &values)
 }

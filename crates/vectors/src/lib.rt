@@ -1,0 +1,7 @@
+// Tests on worked cards, rings and plans; there is no other code here.
+#[cfg(test)]
+mod cards;
+#[cfg(test)]
+mod plans;
+#[cfg(test)]
+mod rings;
