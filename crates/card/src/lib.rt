@@ -1,4 +1,6 @@
 // A card as a task source.
+pub mod owned;
+
 ghost use mathlib.Core.Path.{_≡_};
 ghost use mathlib.Core.List.{[], _∷_};
 ghost use denote.Ref.{now};

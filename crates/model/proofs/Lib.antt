@@ -6,3 +6,8 @@ pub mod Firsts
 pub mod RingFacts
 pub mod CardFacts
 pub mod Chains
+pub mod Reducing
+pub mod LeavingOut
+pub mod Joining
+pub mod Stacking
+pub mod Masks

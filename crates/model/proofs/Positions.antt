@@ -52,3 +52,7 @@ module _ (t : Task) (law : Lawful t) where
 pub applies-needs : (t : Task) (o : ℕ) (p : Position) → Applies t o p → (v : ℕ) → Holds (t .needed o v) (p v)
 unfolding Applies
 applies-needs t o p h = h
+
+pub applies-all : (t : Task) (o : ℕ) (p : Position) → ((v : ℕ) → Holds (t .needed o v) (p v)) → Applies t o p
+unfolding Applies
+applies-all t o p h = h

@@ -13,7 +13,7 @@ use task::source::TaskSource;
 pub mod fault;
 
 // A ring of 1 to 32 variables: operator i passes the value 1 on from variable i to the next one around, and nothing starts at 1.
-#[derive(Drop)]
+#[derive(Clone, Copy)]
 pub struct Ring {
     n: usize,
     ghost low: { 1 ≤ n },

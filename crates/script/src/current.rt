@@ -1,10 +1,11 @@
-// The current task of a session, as what it is read from.
+// The source that a session's piles stand on.
+use card::owned::OwnedCard;
+use ring::Ring;
+
 #[derive(Drop)]
 pub enum Current {
     // there is none yet
     Nothing,
-    // the card of these words
-    Words(Vec<u16>),
-    // the ring of this many places
-    Places(u16),
+    Card(OwnedCard),
+    Ring(Ring),
 }

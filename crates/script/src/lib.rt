@@ -1,7 +1,5 @@
-// Scripts: a command a line, and what each of them prints.
-pub mod command;
+// Scripts: what each command does, and what it prints.
 pub mod current;
-pub mod parse;
 mod report;
 pub mod run;
 pub mod session;

@@ -1,5 +1,9 @@
 // What the commands print.
-use crate::command::LineFault;
+use command::kinds::LineFault;
+use reduction::fault::ReductionFault;
+use reduction::fault::ReductionFaultTold;
+use reduction::interface::Reduction;
+use reduction::interface::image_of;
 use std::io;
 use task::fault::PlanFaultTold;
 use task::moves::advance;
@@ -16,19 +20,38 @@ use task::source::TaskSource;
 pub enum Query<'a> {
     Show,
     Follow(&'a [u16]),
+    Image(usize, u16),
 }
 
-pub fn answer<R: Print, S: TaskSource>(rt: &R, source: &S, query: Query<'_>) -> io::Result<()> {
+pub fn answer<R: Print, P: Reduction>(rt: &R, pile: &P, query: Query<'_>) -> io::Result<()> {
     match query {
-        Query::Show => show(rt, source),
-        Query::Follow(operators) => follow_list(rt, source, operators),
+        Query::Show => show(rt, pile),
+        Query::Follow(operators) => follow_list(rt, pile, operators),
+        Query::Image(v, x) => match image_of(pile, v, x) {
+            Some(y) => println!(rt, "image: {y}"),
+            None => println!(rt, "image: none"),
+        },
+    }
+}
+
+// What is told of a layer that is put on top: this text, where it is accepted.
+pub fn put<R: Print>(
+    rt: &R,
+    number: usize,
+    accepted: &str,
+    answer: Option<Result<(), ReductionFault>>,
+) -> io::Result<()> {
+    match answer {
+        None => no_task(rt, number),
+        Some(Ok(())) => println!(rt, "{accepted}"),
+        Some(Err(e)) => declined(rt, &e),
     }
 }
 
 pub fn line_fault<R: Print>(rt: &R, number: usize, fault: LineFault) -> io::Result<()> {
     let what = match fault {
         LineFault::NoCommand => "no such command",
-        LineFault::NoNumber => "not a number of 16 bits",
+        LineFault::NoNumber => "not a number, or one that does not fit",
         LineFault::WrongCount => "the command takes another number of numbers",
     };
     println!(rt, "error: line {number}: {what}")

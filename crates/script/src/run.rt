@@ -7,7 +7,7 @@ use std::io::BufReader;
 
 // Carries out each line of standard input as it comes.
 pub fn input(rt: &LibcRuntime) -> io::Result<()> {
-    let mut session = Session::new();
+    let mut session = Session::new(rt.alloc());
     let mut number = 0usize;
     for line in BufReader::new(rt.stdin()).lines(rt.alloc()) {
         number = number.saturating_add(1);
@@ -19,7 +19,7 @@ pub fn input(rt: &LibcRuntime) -> io::Result<()> {
 // Carries out each line of the file with this name.
 pub fn file(rt: &LibcRuntime, name: &str) -> io::Result<()> {
     let text = fs::read_to_string(rt, name)?;
-    let mut session = Session::new();
+    let mut session = Session::new(rt.alloc());
     let mut number = 0usize;
     for line in text.lines() {
         number = number.saturating_add(1);

@@ -1,28 +1,39 @@
 // A session: the task that the commands are about, and what each line does.
 ghost use mathlib.Core.Path.{_≡_};
-ghost use mathlib.Core.List.{List};
+ghost use mathlib.Core.List.{List, [], _∷_, _++_};
 ghost use Prim.Native.Nat.{ℕ};
 ghost use Rattle.std.specs.Of.Vec.{vec-items};
+ghost use Rattle.std.specs.Results.{Cases};
 ghost use Rattle.std.specs.Vec.{made};
 ghost use Rattle.model.specs.Card.{variables, operators};
-ghost use Rattle.layout.specs.Wrong.{Reads};
-ghost use Rattle.script.specs.Words.{Words, BeforeComment};
-ghost use Rattle.script.specs.Commands.{says, sayingOf, card, ring};
-ghost use Rattle.script.specs.Sessions.{nothing, held, Becomes, After};
-use crate::command::Command;
-use crate::command::LineFault;
+ghost use Rattle.model.specs.Orders.{First};
+ghost use Rattle.model.specs.Stack.{stacked};
+ghost use Rattle.reduction.specs.Faults.{reductionTurn};
+ghost use Rattle.reduction.specs.declared.fault.ReductionFault.{ReductionFault};
+ghost use Rattle.stack.specs.Layers.{layerings, LayerWrong};
+ghost use Rattle.command.specs.Words.{Words, BeforeComment};
+ghost use Rattle.command.specs.Commands.{says, sayingOf, card, ring};
+ghost use Rattle.script.specs.Sessions.{nothing, held, Tops, Becomes, After};
 use crate::current::Current;
-use crate::parse::parse;
 use crate::report;
 use crate::report::Query;
-use card::Card;
 use card::CardSource;
+use card::owned::OwnedCard;
+use command::kinds::Command;
+use command::parse::parse;
 use layout::fault::CardFault;
 use layout::fault::CardFaultTold;
+use reduction::fault::ReductionFault;
+use reduction::fault::ReductionFaultTold;
 use ring::Ring;
 use ring::RingSource;
 use ring::fault::RingFault;
 use ring::fault::RingFaultTold;
+use stack::layer::Layer;
+use stack::pile::Stack;
+use stack::pile::StackReduction;
+use stack::pile::StackSource;
+use std::alloc::AllocError;
 use std::alloc::Global;
 use std::io;
 use task::source::TaskSource;
@@ -30,14 +41,16 @@ use task::source::TaskSource;
 #[derive(Drop)]
 pub struct Session {
     current: Current,
+    layers: Vec<Layer>,
 }
 
 impl Session {
-    pub fn new() -> Self
-        ensures { λ r. ⌜ held (r .current) ≡ nothing ⌝ }
+    pub fn new(heap: Global) -> Self
+        ensures { λ r. ⌜ held (r .current) (vec-items (r .layers)) ≡ nothing ⌝ }
     {
         Session {
             current: Current::Nothing,
+            layers: Vec::new(heap),
         }
     }
 
@@ -48,7 +61,7 @@ impl Session {
         number: usize,
         text: &str,
     ) -> io::Result<()>
-        ensures { λ r. ⌜ made r (λ _. (before : List ℕ) × (ws : List (List ℕ)) × BeforeComment (now (text .entry)) before × Words before ws × After (held (now (self .entry) .current)) (says ws) (held (now (self .exit) .current))) ⌝ }
+        ensures { λ r. ⌜ made r (λ _. (before : List ℕ) × (ws : List (List ℕ)) × BeforeComment (now (text .entry)) before × Words before ws × After (held (now (self .entry) .current) (vec-items (now (self .entry) .layers))) (says ws) (held (now (self .exit) .current) (vec-items (now (self .exit) .layers)))) ⌝ }
     {
         match parse(rt.alloc(), text)? {
             None => Ok(()),
@@ -57,68 +70,130 @@ impl Session {
         }
     }
 
-    fn perform<R: Print>(&mut self, rt: &R, number: usize, command: Command) -> io::Result<()>
-        ensures { λ _. ⌜ Becomes (held (now (self .entry) .current)) (sayingOf command) (held (now (self .exit) .current)) ⌝ }
+    fn perform<R: Print + Alloc<A = Global>>(
+        &mut self,
+        rt: &R,
+        number: usize,
+        command: Command,
+    ) -> io::Result<()>
+        ensures { λ r. ⌜ made r (λ _. Becomes (held (now (self .entry) .current) (vec-items (now (self .entry) .layers))) (sayingOf command) (held (now (self .exit) .current) (vec-items (now (self .exit) .layers)))) ⌝ }
     {
         match command {
             Command::Card(words) => match self.take_card(words) {
                 Ok((n, m)) => println!(rt, "card: {n} variables, {m} operators"),
                 Err(e) => report::declined(rt, &e),
             },
-            Command::Ring(n) => match self.take_ring(n) {
+            Command::Ring(n) => match self.take_ring(n as usize) {
                 Ok(()) => println!(rt, "ring: {n} variables, {n} operators"),
                 Err(e) => report::declined(rt, &e),
             },
+            Command::LeaveOut(mask) => {
+                let answer = self.put(rt.alloc(), Layer::Keep(mask))?;
+                report::put(rt, number, "leave-out: kept", answer)
+            }
+            Command::Join {
+                variable,
+                low,
+                high,
+            } => {
+                let layer = Layer::Join {
+                    variable: variable as usize,
+                    low,
+                    high,
+                };
+                let answer = self.put(rt.alloc(), layer)?;
+                report::put(rt, number, "join: joined", answer)
+            }
             Command::Task => self.ask(rt, number, Query::Show),
             Command::Follow(operators) => self.ask(rt, number, Query::Follow(operators.as_slice())),
+            Command::Image { variable, value } => self.ask(
+                rt,
+                number,
+                Query::Image(variable as usize, value),
+            ),
         }
     }
 
     // Takes the words as the task, if they are a card, and answers how many variables and operators it has.
     fn take_card(&mut self, words: Vec<u16>) -> Result<(usize, usize), CardFault>
-        ensures { λ _. ⌜ Becomes (held (now (self .entry) .current)) (card (vec-items words)) (held (now (self .exit) .current)) ⌝ }
+        ensures becomes { λ _. ⌜ Becomes (held (now (self .entry) .current) (vec-items (now (self .entry) .layers))) (card (vec-items words)) (held (now (self .exit) .current) (vec-items (now (self .exit) .layers))) ⌝ }
+        ensures counts { λ r. ⌜ made r (λ c. c ≡ (variables (vec-items words), operators (vec-items words))) ⌝ }
     {
-        let counts = card_counts(words.as_slice())?;
-        self.current = Current::Words(words);
+        let card = OwnedCard::read(words)?;
+        let counts = (card.view().variables(), card.view().operators());
+        self.current = Current::Card(card);
+        self.layers.clear();
         Ok(counts)
     }
 
-    fn take_ring(&mut self, n: u16) -> Result<(), RingFault>
-        ensures { λ _. ⌜ Becomes (held (now (self .entry) .current)) (ring n) (held (now (self .exit) .current)) ⌝ }
+    fn take_ring(&mut self, n: usize) -> Result<(), RingFault>
+        ensures { λ _. ⌜ Becomes (held (now (self .entry) .current) (vec-items (now (self .entry) .layers))) (ring n) (held (now (self .exit) .current) (vec-items (now (self .exit) .layers))) ⌝ }
     {
-        Ring::new().set(n as usize)?;
-        self.current = Current::Places(n);
+        let mut ring = Ring::new();
+        ring.set(n)?;
+        self.current = Current::Ring(ring);
+        self.layers.clear();
         Ok(())
     }
 
-    // Asks the current task.
-    fn ask<R: Print>(&self, rt: &R, number: usize, query: Query<'_>) -> io::Result<()> {
+    // Puts a layer on top of the task, if there is one, and answers whether it was accepted.
+    fn put(
+        &mut self,
+        heap: Global,
+        layer: Layer,
+    ) -> Result<Option<Result<(), ReductionFault>>, AllocError>
+        ensures { λ r. ⌜ made r (λ _. Tops (held (now (self .entry) .current) (vec-items (now (self .entry) .layers))) layer (held (now (self .exit) .current) (vec-items (now (self .exit) .layers)))) ⌝ }
+    {
+        let layers = Vec::from_slice(heap, self.layers.as_slice())?;
+        match &self.current {
+            Current::Nothing => Ok(None),
+            Current::Card(card) => {
+                let topped = top(card.view(), layers, layer)?;
+                Ok(Some(self.file(topped)))
+            }
+            Current::Ring(ring) => {
+                let topped = top(*ring, layers, layer)?;
+                Ok(Some(self.file(topped)))
+            }
+        }
+    }
+
+    // Takes the layers over, where they were accepted.
+    fn file(&mut self, topped: Result<Vec<Layer>, ReductionFault>) -> Result<(), ReductionFault>
+        ensures current { λ _. ⌜ now (self .exit) .current ≡ now (self .entry) .current ⌝ }
+        ensures layers { λ _. ⌜ Cases topped (λ more. now (self .exit) .layers ≡ more) (λ _. now (self .exit) .layers ≡ now (self .entry) .layers) ⌝ }
+    {
+        self.layers = topped?;
+        Ok(())
+    }
+
+    // Asks the task.
+    fn ask<R: Print + Alloc<A = Global>>(
+        &self,
+        rt: &R,
+        number: usize,
+        query: Query<'_>,
+    ) -> io::Result<()> {
+        let layers = Vec::from_slice(rt.alloc(), self.layers.as_slice())?;
         match &self.current {
             Current::Nothing => report::no_task(rt, number),
-            Current::Places(n) => {
-                let mut ring = Ring::new();
-                match ring.set(*n as usize) {
-                    Ok(()) => report::answer(rt, &ring, query),
-                    Err(e) => report::declined(rt, &e),
-                }
-            }
-            Current::Words(words) => {
-                let mut card = Card::new();
-                match card.read(words.as_slice()) {
-                    Ok(()) => report::answer(rt, &card, query),
-                    Err(e) => report::declined(rt, &e),
-                }
-            }
+            Current::Card(card) => report::answer(rt, &Stack::over(card.view(), layers), query),
+            Current::Ring(ring) => report::answer(rt, &Stack::over(*ring, layers), query),
         }
     }
 }
 
-// How many variables and operators the words have as a card.
-fn card_counts(words: &[u16]) -> Result<(usize, usize), CardFault>
-    ensures reads { λ r. ⌜ Reads (now (words .entry)) r ⌝ }
-    ensures counts { λ r. ⌜ made r (λ c. c ≡ (variables (now (words .entry)), operators (now (words .entry)))) ⌝ }
+// The layers with one more on top, over this source.
+fn top<S: TaskSource + Drop>(
+    source: S,
+    layers: Vec<Layer>,
+    layer: Layer,
+) -> Result<Result<Vec<Layer>, ReductionFault>, AllocError>
+    ensures { λ r. ⌜ made r (λ answer. Cases answer (λ more. (vec-items more ≡ vec-items layers ++ (layer ∷ [])) × ((e : ReductionFault) → LayerWrong (stacked (layerings (vec-items layers)) (S·TaskSource .task source)) layer e → ⊥)) (λ e. First reductionTurn (LayerWrong (stacked (layerings (vec-items layers)) (S·TaskSource .task source)) layer) e)) ⌝ }
 {
-    let mut card = Card::new();
-    card.read(words)?;
-    Ok((card.variables(), card.operators()))
+    let mut stack = Stack::over(source, layers);
+    match stack.put(layer)? {
+        Ok(()) => Ok(Ok(stack.into_layers())),
+        Err(e) => Ok(Err(e)),
+    }
 }

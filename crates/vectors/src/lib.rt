@@ -2,6 +2,8 @@
 #[cfg(test)]
 mod cards;
 #[cfg(test)]
+mod piles;
+#[cfg(test)]
 mod plans;
 #[cfg(test)]
 mod rings;

@@ -1,6 +1,0 @@
-use mathlib.Core.Path.{_∙_}
-use Rattle.script.proofs.Wording.{number-read}
-use Rattle.script.proofs.parse.number.Needs as need
-
-pub returns : need.returns
-returns c = c .ok .ensures .value ∙ number-read (c .args .word .now) (c .parse .result) (c .parse .ensures .reads .0)
