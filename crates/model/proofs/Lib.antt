@@ -11,3 +11,4 @@ pub mod LeavingOut
 pub mod Joining
 pub mod Stacking
 pub mod Masks
+pub mod Coding

@@ -6,3 +6,4 @@ pub mod Reductions
 pub mod LeaveOut
 pub mod Join
 pub mod Stack
+pub mod Frames

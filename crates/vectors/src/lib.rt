@@ -1,6 +1,8 @@
-// Tests on worked cards, rings and plans; there is no other code here.
+// Tests on worked cards, rings, plans, piles and frames; there is no other code here.
 #[cfg(test)]
 mod cards;
+#[cfg(test)]
+mod frames;
 #[cfg(test)]
 mod piles;
 #[cfg(test)]

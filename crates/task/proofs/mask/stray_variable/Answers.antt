@@ -3,7 +3,7 @@ use native.Mathlib.Omega.{arith}
 use Rattle.std.proofs.shelf.Tests.{both-ways, cases-lt}
 use Rattle.model.specs.LeaveOut.{has}
 use Rattle.model.proofs.Masks.{has-beyond}
-use Rattle.reduction.proofs.check.stray_variable.Needs as need
+use Rattle.task.proofs.mask.stray_variable.Needs as need
 
 pub returns : need.returns
 returns c v w =
