@@ -27,7 +27,10 @@ verbOf w =
     (cond (same-text w (codes "task")) (Some verb.Task)
     (cond (same-text w (codes "follow")) (Some verb.Follow)
     (cond (same-text w (codes "image")) (Some verb.Image)
-    None))))))
+    (cond (same-text w (codes "frame")) (Some verb.Frame)
+    (cond (same-text w (codes "code")) (Some verb.Code)
+    (cond (same-text w (codes "step")) (Some verb.Step)
+    None)))))))))
 
 -- a command, with the numbers that it takes
 pub data Saying : Type 0 where
@@ -38,6 +41,9 @@ pub data Saying : Type 0 where
   task : Saying
   follow : (operators : List ℕ) → Saying
   image : (variable value : ℕ) → Saying
+  frame : (mask : ℕ) → Saying
+  code : (mask : ℕ) (values : List ℕ) → Saying
+  step : (mask code operator : ℕ) → Saying
 
 -- a number of 16 bits
 abbrev pub narrow : ℕ → Bool
@@ -50,7 +56,7 @@ allNarrow (x ∷ xs) = narrow x && allNarrow xs
 abbrev pub where-fit : Bool → Saying → Result Saying LineFault
 where-fit b s = cond b (Ok s) (Err NoNumber)
 
--- what a command says that takes no number, one, two or three
+-- what a command says that takes no number, one, two, three, or one and then any
 abbrev pub with-none : Saying → List ℕ → Result Saying LineFault
 with-none s [] = Ok s
 with-none s (x ∷ xs) = Err WrongCount
@@ -73,6 +79,10 @@ with-three s (x ∷ y ∷ []) = Err WrongCount
 with-three s (x ∷ y ∷ z ∷ []) = s x y z
 with-three s (x ∷ y ∷ z ∷ w ∷ xs) = Err WrongCount
 
+abbrev pub with-first : (ℕ → List ℕ → Result Saying LineFault) → List ℕ → Result Saying LineFault
+with-first s [] = Err WrongCount
+with-first s (x ∷ xs) = s x xs
+
 -- the verb takes these numbers; words, operators and values have 16 bits
 abbrev pub taking : Verb → List ℕ → Result Saying LineFault
 taking verb.Card xs = where-fit (allNarrow xs) (card xs)
@@ -82,6 +92,9 @@ taking verb.Join xs = with-three (λ v a b. where-fit (narrow a && narrow b) (jo
 taking verb.Task xs = with-none task xs
 taking verb.Follow xs = where-fit (allNarrow xs) (follow xs)
 taking verb.Image xs = with-two (λ v x. where-fit (narrow x) (image v x)) xs
+taking verb.Frame xs = with-one (λ mask. Ok (frame mask)) xs
+taking verb.Code xs = with-first (λ mask ys. where-fit (allNarrow ys) (code mask ys)) xs
+taking verb.Step xs = with-three (λ mask c o. Ok (step mask c o)) xs
 
 abbrev pub withNumbers : Option Verb → Option (List ℕ) → Result Saying LineFault
 withNumbers None xs = Err NoCommand
@@ -101,6 +114,9 @@ sayingOf (command.Join v a b) = join v a b
 sayingOf command.Task = task
 sayingOf (command.Follow v) = follow (vec-items v)
 sayingOf (command.Image v x) = image v x
+sayingOf (command.Frame mask) = frame mask
+sayingOf (command.Code mask v) = code mask (vec-items v)
+sayingOf (command.Step mask c o) = step mask c o
 
 -- what the answer of the parser says
 abbrev pub meant : Result Command LineFault → Result Saying LineFault

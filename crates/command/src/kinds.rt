@@ -10,6 +10,9 @@ pub enum Verb {
     Task,
     Follow,
     Image,
+    Frame,
+    Code,
+    Step,
 }
 
 #[derive(Drop)]
@@ -28,6 +31,12 @@ pub enum Command {
     Follow(Vec<u16>),
     // where a value of a variable of the lowest task goes
     Image { variable: u32, value: u16 },
+    // the frame of this mask
+    Frame(u32),
+    // the code of a position in the frame of a mask
+    Code { mask: u32, values: Vec<u16> },
+    // where an operator leads from a code of the frame of a mask
+    Step { mask: u32, code: u32, operator: u32 },
 }
 
 #[derive(Clone, Copy)]

@@ -5,7 +5,7 @@ ghost use Rattle.std.specs.Of.Vec.{vec-items};
 ghost use Rattle.std.specs.Options.{mapped};
 ghost use Rattle.std.specs.Vec.{made};
 ghost use Rattle.std.specs.declared.option.Option.the-variants.{Some, None};
-ghost use Rattle.command.specs.declared.kinds.Verb.the-variants.{Ring, LeaveOut, Join, Task, Image};
+ghost use Rattle.command.specs.declared.kinds.Verb.the-variants.{Ring, LeaveOut, Join, Task, Image, Frame, Code, Step};
 ghost use Rattle.command.specs.Commands.{verbOf, allNarrow, taking, withNumbers, meant};
 use crate::kinds::Command;
 use crate::kinds::LineFault;
@@ -24,6 +24,9 @@ pub(crate) fn verb(name: &str) -> Option<Verb>
         "task" => Some(Verb::Task),
         "follow" => Some(Verb::Follow),
         "image" => Some(Verb::Image),
+        "frame" => Some(Verb::Frame),
+        "code" => Some(Verb::Code),
+        "step" => Some(Verb::Step),
         _ => None,
     }
 }
@@ -100,6 +103,43 @@ fn image(numbers: &[u32]) -> Result<Command, LineFault>
     })
 }
 
+fn frame(numbers: &[u32]) -> Result<Command, LineFault>
+    ensures { λ r. ⌜ meant r ≡ taking Frame (now (numbers .entry)) ⌝ }
+{
+    match numbers {
+        [mask] => Ok(Command::Frame(*mask)),
+        _ => Err(LineFault::WrongCount),
+    }
+}
+
+fn code(heap: Global, numbers: &[u32]) -> Result<Result<Command, LineFault>, AllocError>
+    ensures { λ r. ⌜ made r (λ answer. meant answer ≡ taking Code (now (numbers .entry))) ⌝ }
+{
+    let Some((mask, rest)) = numbers.split_first() else {
+        return Ok(Err(LineFault::WrongCount));
+    };
+    match narrowed(heap, rest)? {
+        Some(values) => Ok(Ok(Command::Code {
+            mask: *mask,
+            values,
+        })),
+        None => Ok(Err(LineFault::NoNumber)),
+    }
+}
+
+fn step(numbers: &[u32]) -> Result<Command, LineFault>
+    ensures { λ r. ⌜ meant r ≡ taking Step (now (numbers .entry)) ⌝ }
+{
+    match numbers {
+        [mask, code, operator] => Ok(Command::Step {
+            mask: *mask,
+            code: *code,
+            operator: *operator,
+        }),
+        _ => Err(LineFault::WrongCount),
+    }
+}
+
 // The command of this verb with these numbers.
 fn command(
     heap: Global,
@@ -123,6 +163,9 @@ fn command(
             Verb::Join => join(numbers),
             Verb::Task => task(numbers),
             Verb::Image => image(numbers),
+            Verb::Frame => frame(numbers),
+            Verb::Code => code(heap, numbers)?,
+            Verb::Step => step(numbers),
         },
     )
 }

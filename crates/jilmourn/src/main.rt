@@ -16,6 +16,9 @@ Blank lines are skipped, and so is what follows a '#'. Numbers are decimal.
   follow O O ..   follow these operators from the start, and show the position that each leads to;
                   step I is the operator at index I, counted from 0
   image V X       where value X of variable V of the card or ring goes in the task
+  frame MASK      the size and the variables of the frame of this mask
+  code MASK X ..  the code, in that frame, of the position with these values, one for each variable
+  step MASK C O   the code that operator O leads to from code C of that frame
 
 Leave-outs and joins go on top of each other. A card or a ring starts anew.
 A refusal prints 'declined: NUMBER LAYER at (P, Q)' and changes nothing.

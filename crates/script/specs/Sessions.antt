@@ -22,7 +22,7 @@ use Rattle.stack.specs.declared.layer.Layer.{Layer}
 use Rattle.stack.specs.declared.layer.Layer.the-variants.{Keep, Join}
 use Rattle.stack.specs.Layers.{layerings, LayerWrong}
 use Rattle.command.specs.declared.kinds.LineFault.{LineFault}
-use Rattle.command.specs.Commands.{Saying, card, ring, leave-out, join, task, follow, image}
+use Rattle.command.specs.Commands.{Saying, card, ring, leave-out, join, task, follow, image, frame, code, step}
 use Rattle.script.specs.declared.current.Current.{Current}
 use Rattle.script.specs.declared.current.Current.the-variants as current
 
@@ -61,6 +61,9 @@ Becomes h (join v a b) h′ = Tops h (Join v a b) h′
 Becomes h task h′ = h′ ≡ h
 Becomes h (follow os) h′ = h′ ≡ h
 Becomes h (image v x) h′ = h′ ≡ h
+Becomes h (frame mask) h′ = h′ ≡ h
+Becomes h (code mask xs) h′ = h′ ≡ h
+Becomes h (step mask c o) h′ = h′ ≡ h
 
 -- what a line makes of it that says this
 abbrev pub After : Held → Option (Result Saying LineFault) → Held → Type 0

@@ -1,4 +1,5 @@
 // What the commands print.
+use crate::frames;
 use command::kinds::LineFault;
 use reduction::fault::ReductionFault;
 use reduction::fault::ReductionFaultTold;
@@ -21,6 +22,9 @@ pub enum Query<'a> {
     Show,
     Follow(&'a [u16]),
     Image(usize, u16),
+    Frame(u32),
+    Code(u32, &'a [u16]),
+    Step(u32, usize, usize),
 }
 
 pub fn answer<R: Print, P: Reduction>(rt: &R, pile: &P, query: Query<'_>) -> io::Result<()> {
@@ -31,6 +35,9 @@ pub fn answer<R: Print, P: Reduction>(rt: &R, pile: &P, query: Query<'_>) -> io:
             Some(y) => println!(rt, "image: {y}"),
             None => println!(rt, "image: none"),
         },
+        Query::Frame(mask) => frames::show(rt, pile, mask),
+        Query::Code(mask, values) => frames::code(rt, pile, mask, values),
+        Query::Step(mask, code, operator) => frames::step(rt, pile, mask, code, operator),
     }
 }
 

@@ -111,6 +111,19 @@ impl Session {
                 number,
                 Query::Image(variable as usize, value),
             ),
+            Command::Frame(mask) => self.ask(rt, number, Query::Frame(mask)),
+            Command::Code { mask, values } => {
+                self.ask(rt, number, Query::Code(mask, values.as_slice()))
+            }
+            Command::Step {
+                mask,
+                code,
+                operator,
+            } => self.ask(
+                rt,
+                number,
+                Query::Step(mask, code as usize, operator as usize),
+            ),
         }
     }
 

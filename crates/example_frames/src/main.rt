@@ -1,0 +1,7 @@
+// Runs examples/frames.txt.
+use script::run;
+use std::io;
+
+fn main(rt: LibcRuntime) -> io::Result<()> {
+    run::input(&rt)
+}
