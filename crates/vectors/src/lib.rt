@@ -4,6 +4,8 @@ mod cards;
 #[cfg(test)]
 mod frames;
 #[cfg(test)]
+mod numbers;
+#[cfg(test)]
 mod piles;
 #[cfg(test)]
 mod plans;

@@ -1,0 +1,3 @@
+// The numbers of frames.
+pub mod number;
+mod walk;
