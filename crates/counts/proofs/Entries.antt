@@ -11,6 +11,12 @@ use Rattle.std.proofs.shelf.Tests.{and-parts, eqb-true, cond-true, cond-false, 
 use Rattle.model.specs.Frames.{choose}
 use Rattle.counts.specs.Pascal.{firstRow, otherRows, pascal}
 
+-- the sets with the first thing, and those without
+pub choose-more : (a k : ℕ) → length (choose (suc a) (suc k)) ≡ length (choose a k) + length (choose a (suc k))
+choose-more a k = length-append (map (λ f. 2 * f + 1) (choose a k)) (map (λ f. 2 * f) (choose a (suc k)))
+    ∙ ap (λ x. x + length (map (λ f. 2 * f) (choose a (suc k)))) (length-map (choose a k) (λ f. 2 * f + 1))
+    ∙ ap (λ x. length (choose a k) + x) (length-map (choose a (suc k)) (λ f. 2 * f))
+
 first-entry : (xs : List ℕ) (k i : ℕ) → firstRow k xs ≡ true → i < length xs → getD xs i 0 ≡ cond (eqb (k + i) 0) 1 0
 first-entry [] k i t h = absurd (omega arith)
 first-entry (x ∷ xs) k zero t h = eqb-true _ _ (and-parts _ _ t .0) ∙ ap (λ j. cond (eqb j 0) 1 0) (omega arith)
@@ -63,6 +69,4 @@ module _ (table : List ℕ) (long : length table ≡ 1089) (t : pascal table ≡
       inner a b h g
       ∙ ap (λ x. x + getD table (a * 33 + suc b) 0) (entry-counts a b (omega arith) (omega arith))
       ∙ ap (λ x. length (choose a b) + x) (entry-counts a (suc b) (omega arith) g)
-      ∙ sym (length-append (map (λ f. 2 * f + 1) (choose a b)) (map (λ f. 2 * f) (choose a (suc b)))
-      ∙ ap (λ x. x + length (map (λ f. 2 * f) (choose a (suc b)))) (length-map (choose a b) (λ f. 2 * f + 1))
-      ∙ ap (λ x. length (choose a b) + x) (length-map (choose a (suc b)) (λ f. 2 * f)))
+      ∙ sym (choose-more a b)

@@ -13,8 +13,9 @@ use lib.Pow.{pow-lt, pow-mono, pow-pos}
 use Rattle.std.proofs.shelf.Tests.{eqb-true, eqb-false}
 use Rattle.model.specs.LeaveOut.{has}
 use Rattle.model.specs.Frames.{choose}
+use Rattle.counts.proofs.Entries.{choose-more}
 use Rattle.numbers.specs.Numbers.{count, among, before}
-use Rattle.numbers.proofs.Windows.{count-in, count-out, among-none, among-out, among-length, choose-more, Window, window-whole, window-with, window-without, window-past}
+use Rattle.numbers.proofs.Windows.{count-in, count-out, among-none, among-out, among-length, Window, window-whole, window-with, window-without, window-past}
 
 module _ (v : ℕ) (h : v < 32) where
   to-go : 32 - v ≡ suc (32 - (v + 1))

@@ -12,6 +12,7 @@ use Rattle.std.proofs.shelf.Lists.{getD-append-left, getD-append-add, getD-map}
 use Rattle.std.proofs.shelf.Tests.{cases-lt, cond-true, cond-false, and-from, lt-ltb}
 use Rattle.model.specs.LeaveOut.{has}
 use Rattle.model.specs.Frames.{choose}
+use Rattle.counts.proofs.Entries.{choose-more}
 use Rattle.numbers.specs.Numbers.{count, among, before}
 
 module _ (c n v : ℕ) where
@@ -35,11 +36,6 @@ pub among-out : (c n v k : ℕ) → has c v ≡ false → among c (suc n) v k �
 unfolding among
 among-out c n v zero e = refl
 among-out c n v (suc k) e = ap (λ xs. xs ++ among c n (suc v) (suc k)) (cond-false (has c v) (map (λ f. 2 ^ v + f) (among c n (suc v) k)) [] e)
-
-pub choose-more : (a k : ℕ) → length (choose (suc a) (suc k)) ≡ length (choose a k) + length (choose a (suc k))
-choose-more a k = length-append (map (λ f. 2 * f + 1) (choose a k)) (map (λ f. 2 * f) (choose a (suc k)))
-    ∙ ap (λ x. x + length (map (λ f. 2 * f) (choose a (suc k)))) (length-map (choose a k) (λ f. 2 * f + 1))
-    ∙ ap (λ x. length (choose a k) + x) (length-map (choose a (suc k)) (λ f. 2 * f))
 
 either : (b : Bool) → (b ≡ true) ⊎ (b ≡ false)
 either true = inl refl
