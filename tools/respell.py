@@ -74,15 +74,10 @@ def declared(root):
     return names, fields
 
 
-def outside_text(line, mark, change):
-    """Changes a line but for its strings and its comment."""
-    parts = re.split(r'("(?:[^"\\]|\\.)*")', line)
-    for i in range(0, len(parts), 2):
-        at = parts[i].find(mark)
-        if at >= 0:
-            return "".join(parts[:i]) + change(parts[i][:at]) + parts[i][at:] + "".join(parts[i + 1:])
-        parts[i] = change(parts[i])
-    return "".join(parts)
+def outside_text(text, comment, change):
+    """Changes a text but for its strings, of which one may have several lines, and its comments."""
+    parts = re.split(r"""("(?:[^"\\]|\\.)*"|'"'|%s[^\n]*)""" % comment, text)
+    return "".join(part if i % 2 else change(part) for i, part in enumerate(parts))
 
 
 def main():
@@ -117,14 +112,13 @@ def main():
 
     for path in files(root, ".antt"):
         old = read(path)
-        lines = [line if is_goal(path, line) else outside_text(line, "-- ", change) for line in old.split("\n")]
-        new = "\n".join(lines)
+        new = "\n".join(line if is_goal(path, line) else outside_text(line, "--", change) for line in old.split("\n"))
         if new != old:
             with open(path, "w", encoding="utf-8") as f:
                 f.write(new)
     for path in [*files(root, ".rt"), *files(root, ".edit")]:
         old = read(path)
-        new = "\n".join(outside_text(line, "//", change) for line in old.split("\n"))
+        new = outside_text(old, "//", change)
         if new != old:
             with open(path, "w", encoding="utf-8") as f:
                 f.write(new)

@@ -1,4 +1,6 @@
 // A card as a task source.
+#![tactic(auto)]
+
 pub mod owned;
 
 ghost use Rattle.std.specs.Prelude.{◌≡◌, [], ◌∷◌, MatchResult};

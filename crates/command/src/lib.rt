@@ -1,4 +1,6 @@
 // The commands of a script, and how a line says one.
+#![tactic(auto)]
+
 pub mod kinds;
 pub mod parse;
 mod take;

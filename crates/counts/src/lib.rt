@@ -1,4 +1,6 @@
 // How many sets of so many members there are.
+#![tactic(auto)]
+
 ghost use Rattle.std.specs.Prelude.{◌≡◌, ◌≤◌, true, ◌&&◌, ltb, length, if◌then◌else◌, nat_lt};
 ghost use Rattle.model.specs.Frames.{choose};
 ghost use Rattle.counts.specs.Pascal.{pascal};

@@ -1,4 +1,6 @@
 // Runs examples/frames.txt.
+#![tactic(auto)]
+
 use script::run;
 use std::io;
 

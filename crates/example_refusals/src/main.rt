@@ -1,4 +1,6 @@
 // Runs examples/refusals.txt.
+#![tactic(auto)]
+
 use script::run;
 use std::io;
 

@@ -1,4 +1,6 @@
 // Frames: sets of variables that positions are coded by.
+#![tactic(auto)]
+
 mod build;
 mod coding;
 pub mod fault;

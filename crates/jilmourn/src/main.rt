@@ -1,4 +1,6 @@
 // The program: carries out a script from standard input, or from the file that its argument names.
+#![tactic(auto)]
+
 use script::run;
 use std::env;
 
@@ -9,7 +11,7 @@ Blank lines are skipped, and so is what follows a '#'. Numbers are decimal.
 
   card W W ..     read these 16-bit words as a card; its task is the task from then on
   ring N          the task is the ring of N places, 1 to 32
-  leave_out MASK  keep just the variables of this 32-bit mask, bit V for variable V
+  leave-out MASK  keep just the variables of this 32-bit mask, bit V for variable V
   join V A B      make the values A < B of variable V one
   task            show the task: a line for each variable and for each operator
   follow O O ..   follow these operators from the start, and show the position that each leads to;

@@ -1,4 +1,6 @@
 // Join as a task source over any other, and as a layer of a pile.
+#![tactic(auto)]
+
 ghost use Rattle.std.specs.Prelude.{◌≡◌, ◌≤◌, MatchResult};
 ghost use Rattle.std.proofs.Common.{subst, rules};
 ghost use Rattle.model.specs.Reductions.{Reduces};

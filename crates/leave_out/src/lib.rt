@@ -1,4 +1,6 @@
 // Leave-out as a task source over any other, and as a layer of a pile.
+#![tactic(auto)]
+
 ghost use Rattle.std.specs.Prelude.{◌≡◌, if◌then◌else◌, None, MatchResult};
 ghost use Rattle.std.proofs.Common.{subst, rules};
 ghost use Rattle.model.specs.Reductions.{Reduces};

@@ -1,3 +1,5 @@
 // The numbers of frames.
+#![tactic(auto)]
+
 pub mod number;
 mod walk;

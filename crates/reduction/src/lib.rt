@@ -1,4 +1,6 @@
 // Reductions: coarser tasks over a source, and the law that what they call hopeless is hopeless below.
+#![tactic(auto)]
+
 pub mod check;
 pub mod fault;
 pub mod ground;

@@ -1,4 +1,6 @@
 // The ring of n as a task source.
+#![tactic(auto)]
+
 ghost use Rattle.std.specs.Prelude.{◌≡◌, ◌≤◌, MatchResult};
 ghost use Rattle.model.specs.Ring.{ring};
 ghost use Rattle.model.proofs.RingFacts.{ring_lawful};

@@ -1,4 +1,6 @@
 // Scripts: what each command does, and what it prints.
+#![tactic(auto)]
+
 pub mod current;
 mod frames;
 mod report;

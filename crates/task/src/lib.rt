@@ -1,4 +1,6 @@
 // Task sources, what their operators do, and plans.
+#![tactic(auto)]
+
 pub mod fault;
 pub mod mask;
 pub mod moves;

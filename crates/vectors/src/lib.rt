@@ -1,4 +1,6 @@
 // Tests on worked cards, rings, plans, piles and frames; there is no other code here.
+#![tactic(auto)]
+
 #[cfg(test)]
 mod cards;
 #[cfg(test)]

@@ -13,7 +13,7 @@ loop-x-preserved c =
     let xs = c.args.numbers.now in
     let i = c.loop-x.x-index in
     let h = c.in-Ok.ensures in (
-      c.in-ok-push.ensures.items ∙ ap (λ ys. ys ++ (c.in-Ok.word ∷ [])) c.loop-x.invariant.0 ∙ ap (λ x. take i xs ++ (x ∷ [])) h.1 ∙ sym (take_more xs i 0 c.loop-x-test.true),
+      c.in_ok-push.ensures.items ∙ ap (λ ys. ys ++ (c.in-Ok.word ∷ [])) c.loop-x.invariant.0 ∙ ap (λ x. take i xs ++ (x ∷ [])) h.1 ∙ sym (take_more xs i 0 c.loop-x-test.true),
       c.loop-x.invariant.1 ∙ narrow_more xs i c.loop-x-test.true h.0,
     )
 

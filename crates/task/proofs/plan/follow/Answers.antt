@@ -17,14 +17,14 @@ returns-in-Some g c =
     let t = g.S.TaskSource.task c.args.source.now in
     let os = c.args.operators.now in
     let h = c.in-Some.ensures in
-    let f = first_unknown t os c.in-Some.i c.if-operators-gt-MAX-PLAN.false h.0.0 h.0.1 h.1 in
+    let f = first_unknown t os c.in-Some.i c.if-operators-gt-MAX_PLAN.false h.0.0 h.0.1 h.1 in
     record { reaches = f; exact = not_followed t os _ f.0 }
 
 pub returns-then-not-applies : goal.returns-then-not-applies
 returns-then-not-applies g c =
     let t = g.S.TaskSource.task c.args.source.now in
     let os = c.args.operators.now in
-    let f = first_blocked t os c.if-operators-gt-MAX-PLAN.false c.in-default.ensures c.loop-i.i (position c.loop-i.values) c.loop-i-test.true c.loop-i.invariant.1 (λ a. false≢true (c.if-not-applies.ensures.1 a)) in
+    let f = first_blocked t os c.if-operators-gt-MAX_PLAN.false c.in_default.ensures c.loop-i.i (position c.loop-i.values) c.loop-i-test.true c.loop-i.invariant.1 (λ a. false≢true (c.if-not-applies.ensures.1 a)) in
     record { reaches = f; exact = not_followed t os _ f.0 }
 
 pub loop-i-preserved : goal.loop-i-preserved
@@ -34,7 +34,7 @@ loop-i-preserved g c =
     let law = g.S.TaskSource.lawful s in
     let os = c.args.operators.now in
     let i = c.loop-i.i in
-    let known : get_or os i 0 < t.m = ⊎_elim (λ l. l) (λ l. absurd (c.in-default.ensures i (c.loop-i-test.true, l))) (cases_lt (get_or os i 0) t.m) in
+    let known : get_or os i 0 < t.m = ⊎_elim (λ l. l) (λ l. absurd (c.in_default.ensures i (c.loop-i-test.true, l))) (cases_lt (get_or os i 0) t.m) in
     let long : t.n ≤ length c.loop-i.values = omega (arith, law.variables.1, c.loop-i.invariant.0) in
     let more = follow_more t law os c.loop-i.values i c.loop-i-test.true known long c.loop-i.invariant.1 (c.if-not-applies.ensures.0 refl) in (
       ap length c.advance.ensures ∙ length-map-range_with_len _ 0 _ ∙ c.loop-i.invariant.0,
@@ -46,4 +46,4 @@ returns g c =
     let t = g.S.TaskSource.task c.args.source.now in
     let os = c.args.operators.now in
     let all = subst (λ xs. Leads t xs t.start (position c.loop-i.values)) (take_all c.loop-i.i os c.loop-i-test.false) c.loop-i.invariant.1 in
-    record { reaches = all; exact = (λ e. (c.if-operators-gt-MAX-PLAN.false, (position c.loop-i.values, all)), λ h. refl) }
+    record { reaches = all; exact = (λ e. (c.if-operators-gt-MAX_PLAN.false, (position c.loop-i.values, all)), λ h. refl) }
