@@ -12,4 +12,4 @@ returns c =
     let h = c.in_ok-found.ensures in
     let first = first_word _ name _ c.in-Some.ensures.steps in
     let words = subst (λ bs. Words bs (name ∷ h.0)) c.split_whitespace-words.ensures.rest (_, first, h.1) in
-    (text, name ∷ h.0, c.before_comment.ensures, words, ap Some (c.in-ok-command-of.ensures ∙ ap (λ v. with_numbers v (option_map vec_items c.in_ok-found.found)) c.verb.ensures ∙ ap (with_numbers (verb_of name)) h.2))
+    (text, name ∷ h.0, c.before_comment.ensures, words, ap Some (c.in_ok-command_of.ensures ∙ ap (λ v. with_numbers v (option_map vec_items c.in_ok-found.found)) c.verb.ensures ∙ ap (with_numbers (verb_of name)) h.2))

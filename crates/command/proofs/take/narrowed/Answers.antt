@@ -3,10 +3,10 @@ use Rattle.std.proofs.lemmas.List.{take_more, take_all}
 use Rattle.command.proofs.Narrowing.{narrow_more, narrow_not, narrow_all}
 use Rattle.command.proofs.take.narrowed.Goals as goal
 
-pub returns-in-default : goal.returns-in-default
-returns-in-default c =
+pub returns-in_default : goal.returns-in_default
+returns-in_default c =
     let xs = c.args.numbers.now in
-    sym (ap (λ b. cond b (Some xs) None) (c.loop-x.invariant.1 ∙ narrow_not xs c.loop-x.x-index c.loop-x-test.true c.in-default.ensures))
+    sym (ap (λ b. cond b (Some xs) None) (c.loop-x.invariant.1 ∙ narrow_not xs c.loop-x.x-index c.loop-x-test.true c.in_default.ensures))
 
 pub loop-x-preserved : goal.loop-x-preserved
 loop-x-preserved c =

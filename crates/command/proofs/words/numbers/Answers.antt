@@ -4,10 +4,10 @@ use Rattle.command.proofs.Wording.{Sofar, first_word, sofar_number, sofar_no_num
 use Rattle.command.proofs.words.numbers.Goals as goal
 use Rattle.command.proofs.words.numbers.Goals.{then-all, else-all}
 
-pub loop-word-preserved-in-ok-push : goal.loop-word-preserved-in-ok-push
-loop-word-preserved-in-ok-push c =
+pub loop-word-preserved-in_ok-push-in-Some-number : goal.loop-word-preserved-in_ok-push-in-Some-number
+loop-word-preserved-in_ok-push-in-Some-number c =
     let first = first_word _ c.in-Some.word.now _ c.in-Some.ensures.steps in
-    rw c.in-ok-push.ensures.items (sofar_number c.loop-word.invariant first c.in-Some-number.x (sym c.in-Some-number.ensures))
+    rw c.in_ok-push-in-Some-number.ensures.items (sofar_number c.loop-word.invariant first c.in-Some-number.x (sym c.in-Some-number.ensures))
 
 pub loop-word-preserved : goal.loop-word-preserved
 loop-word-preserved c =

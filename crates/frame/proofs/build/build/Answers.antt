@@ -16,7 +16,7 @@ same_width t sizes mask v e = ap (λ f. width_by f mask v) e
 pub measure-requires : goal.measure-requires
 measure-requires g c =
     let s = c.args.source.now in (
-      sized (g.S.TaskSource.task s) (g.S.TaskSource.lawful s) c.sizes-of-sizes.result c.sizes-of-sizes.ensures,
+      sized (g.S.TaskSource.task s) (g.S.TaskSource.lawful s) c.sizes_of-sizes.result c.sizes_of-sizes.ensures,
       omega (arith, c.variables-n.ensures, (g.S.TaskSource.lawful s).variables.1),
     )
 
@@ -26,14 +26,14 @@ invariant-of-result g c =
     let t = g.S.TaskSource.task s in
     let law = g.S.TaskSource.lawful s in
     let m = c.in-Ok.ensures in
-    let legal : c.args.mask < 2 ^ t.n = within t law c.args.mask (omega (arith, c.if-mask-eq0.false)) (λ v w. c.in-default.ensures v (omega (arith, w.0, c.variables-n.ensures), w.1)) in (
+    let legal : c.args.mask < 2 ^ t.n = within t law c.args.mask (omega (arith, c.if-mask-eq0.false)) (λ v w. c.in_default.ensures v (omega (arith, w.0, c.variables-n.ensures), w.1)) in (
       omega (arith, c.variables-n.ensures, law.variables.1),
       (
         omega (arith, c.if-mask-eq0.false),
         (
           subst (λ n. c.args.mask < 2 ^ n) (sym c.variables-n.ensures) legal,
           (
-            sized t law c.sizes-of-sizes.result c.sizes-of-sizes.ensures,
+            sized t law c.sizes_of-sizes.result c.sizes_of-sizes.ensures,
             (m.0, (m.1, (m.2, tt))),
           ),
         ),
@@ -45,10 +45,10 @@ returns-in-Ok g c =
     let s = c.args.source.now in
     let t = g.S.TaskSource.task s in
     let m = c.in-Ok.ensures in
-    let e : c.in-Ok.size ≡ frame_size t c.args.mask = m.1 ∙ ap (λ f. width_by f c.args.mask c.variables-n.result) c.sizes-of-sizes.ensures ∙ ap (width t c.args.mask) c.variables-n.ensures in
+    let e : c.in-Ok.size ≡ frame_size t c.args.mask = m.1 ∙ ap (λ f. width_by f c.args.mask c.variables-n.result) c.sizes_of-sizes.ensures ∙ ap (width t c.args.mask) c.variables-n.ensures in
     record {
-      frames = frame_right t (g.S.TaskSource.lawful s) c.args.mask (omega (arith, c.if-mask-eq0.false)) (λ v w. c.in-default.ensures v (omega (arith, w.0, c.variables-n.ensures), w.1)) (subst (λ x. x ≤ 16384) e m.2);
-      holds = (refl, c.variables-n.ensures, c.sizes-of-sizes.ensures);
+      frames = frame_right t (g.S.TaskSource.lawful s) c.args.mask (omega (arith, c.if-mask-eq0.false)) (λ v w. c.in_default.ensures v (omega (arith, w.0, c.variables-n.ensures), w.1)) (subst (λ x. x ≤ 16384) e m.2);
+      holds = (refl, c.variables-n.ensures, c.sizes_of-sizes.ensures);
     }
 
 pub returns-in-Err : goal.returns-in-Err
@@ -56,10 +56,10 @@ returns-in-Err g c =
     let s = c.args.source.now in
     let t = g.S.TaskSource.task s in
     let m = c.in-Err.ensures in
-    let ss = c.sizes-of-sizes.result in
-    let same = λ (v : ℕ). same_width t ss c.args.mask v c.sizes-of-sizes.ensures in
+    let ss = c.sizes_of-sizes.result in
+    let same = λ (v : ℕ). same_width t ss c.args.mask v c.sizes_of-sizes.ensures in
     record {
-      frames = first_large t (g.S.TaskSource.lawful s) c.args.mask (omega (arith, c.if-mask-eq0.false)) (λ v w. c.in-default.ensures v (omega (arith, w.0, c.variables-n.ensures), w.1))
+      frames = first_large t (g.S.TaskSource.lawful s) c.args.mask (omega (arith, c.if-mask-eq0.false)) (λ v w. c.in_default.ensures v (omega (arith, w.0, c.variables-n.ensures), w.1))
           c.in-Err.v (omega (arith, m.0, c.variables-n.ensures)) (subst (λ x. 16384 < x) (same (suc c.in-Err.v)) m.1) (λ u h. subst (λ x. x ≤ 16384) (same (suc u)) (m.2 u h));
       holds = tt;
     }

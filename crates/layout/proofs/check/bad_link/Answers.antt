@@ -5,4 +5,4 @@ use Rattle.layout.proofs.check.bad_link.Goals as goal
 pub returns-in-None : goal.returns-in-None
 returns-in-None c =
     let ws = c.args.words.now in
-    least_right (WrongHead ws) (WrongNext ws) c.bad-next.result c.in-None.ensures c.bad-next.ensures
+    least_right (WrongHead ws) (WrongNext ws) c.bad_next.result c.in-None.ensures c.bad_next.ensures

@@ -19,15 +19,15 @@ returns-in-Some c =
     let version : word ws 0 ≡ 1 = omega (arith, c.word.ensures, c.if-word-ne1.false) in
     first_at ws 3 c.in-Some.i (below_three ws c.if-words-lt4.false version) c.in-Some.ensures refl refl
 
-pub returns-then-words-card-length : goal.returns-then-words-card-length
-returns-then-words-card-length c =
+pub returns-then-words-card_length : goal.returns-then-words-card_length
+returns-then-words-card_length c =
     let ws = c.args.words.now in
     let version : word ws 0 ≡ 1 = omega (arith, c.word.ensures, c.if-word-ne1.false) in
-    first_at ws 4 (length ws) (below_four ws c.if-words-lt4.false version c.in-default.ensures)
-    ((refl, λ e. c.if-words-card-length.true (e ∙ sym c.card-length.ensures)), λ j l w. omega (arith, w.0)) refl refl
+    first_at ws 4 (length ws) (below_four ws c.if-words-lt4.false version c.in_default.ensures)
+    ((refl, λ e. c.if-words-card_length.true (e ∙ sym c.card_length.ensures)), λ j l w. omega (arith, w.0)) refl refl
 
 pub returns : goal.returns
 returns c =
     let ws = c.args.words.now in
     let version : word ws 0 ≡ 1 = omega (arith, c.word.ensures, c.if-word-ne1.false) in
-    none_more ws 4 (below_four ws c.if-words-lt4.false version c.in-default.ensures) (λ i w. w.1 (c.if-words-card-length.false ∙ c.card-length.ensures))
+    none_more ws 4 (below_four ws c.if-words-lt4.false version c.in_default.ensures) (λ i w. w.1 (c.if-words-card_length.false ∙ c.card_length.ensures))

@@ -19,19 +19,19 @@ module _ (ws : List ℕ) (counts : NoneBelow ws 5) (sizes : (i : ℕ) → CardWr
   below_nine starts links records = none_more ws 8 (below_eight starts links) records
 
 pub returns-in-Some : goal.returns-in-Some
-returns-in-Some c = let ws = c.args.words.now in first_at ws 5 c.in-Some.i c.in-ok-check-counts.ensures c.in-Some.ensures refl refl
+returns-in-Some c = let ws = c.args.words.now in first_at ws 5 c.in-Some.i c.in_ok-check_counts.ensures c.in-Some.ensures refl refl
 
-pub returns-in-Some-bad-start : goal.returns-in-Some-bad-start
-returns-in-Some-bad-start c = let ws = c.args.words.now in first_at ws 6 c.in-Some-bad-start.i (below_six ws c.in-ok-check-counts.ensures c.in-default.ensures) c.in-Some-bad-start.ensures refl refl
+pub returns-in-Some-bad_start : goal.returns-in-Some-bad_start
+returns-in-Some-bad_start c = let ws = c.args.words.now in first_at ws 6 c.in-Some-bad_start.i (below_six ws c.in_ok-check_counts.ensures c.in_default.ensures) c.in-Some-bad_start.ensures refl refl
 
-pub returns-in-Some-bad-link : goal.returns-in-Some-bad-link
-returns-in-Some-bad-link c = let ws = c.args.words.now in first_at ws 7 c.in-Some-bad-link.i (below_seven ws c.in-ok-check-counts.ensures c.in-default.ensures c.in-default-bad-start.ensures) c.in-Some-bad-link.ensures refl refl
+pub returns-in-Some-bad_link : goal.returns-in-Some-bad_link
+returns-in-Some-bad_link c = let ws = c.args.words.now in first_at ws 7 c.in-Some-bad_link.i (below_seven ws c.in_ok-check_counts.ensures c.in_default.ensures c.in_default-bad_start.ensures) c.in-Some-bad_link.ensures refl refl
 
-pub returns-in-Some-bad-record : goal.returns-in-Some-bad-record
-returns-in-Some-bad-record c = let ws = c.args.words.now in first_at ws 8 c.in-Some-bad-record.i (below_eight ws c.in-ok-check-counts.ensures c.in-default.ensures c.in-default-bad-start.ensures c.in-default-bad-link.ensures) c.in-Some-bad-record.ensures refl refl
+pub returns-in-Some-bad_record : goal.returns-in-Some-bad_record
+returns-in-Some-bad_record c = let ws = c.args.words.now in first_at ws 8 c.in-Some-bad_record.i (below_eight ws c.in_ok-check_counts.ensures c.in_default.ensures c.in_default-bad_start.ensures c.in_default-bad_link.ensures) c.in-Some-bad_record.ensures refl refl
 
-pub returns-in-Some-bad-order : goal.returns-in-Some-bad-order
-returns-in-Some-bad-order c = let ws = c.args.words.now in first_at ws 9 c.in-Some-bad-order.i (below_nine ws c.in-ok-check-counts.ensures c.in-default.ensures c.in-default-bad-start.ensures c.in-default-bad-link.ensures c.in-default-bad-record.ensures) c.in-Some-bad-order.ensures refl refl
+pub returns-in-Some-bad_order : goal.returns-in-Some-bad_order
+returns-in-Some-bad_order c = let ws = c.args.words.now in first_at ws 9 c.in-Some-bad_order.i (below_nine ws c.in_ok-check_counts.ensures c.in_default.ensures c.in_default-bad_start.ensures c.in_default-bad_link.ensures c.in_default-bad_record.ensures) c.in-Some-bad_order.ensures refl refl
 
 pub returns : goal.returns
-returns c = let ws = c.args.words.now in clean_card ws (none_at_all ws (none_more ws 9 (below_nine ws c.in-ok-check-counts.ensures c.in-default.ensures c.in-default-bad-start.ensures c.in-default-bad-link.ensures c.in-default-bad-record.ensures) c.in-default-bad-order.ensures))
+returns c = let ws = c.args.words.now in clean_card ws (none_at_all ws (none_more ws 9 (below_nine ws c.in_ok-check_counts.ensures c.in_default.ensures c.in_default-bad_start.ensures c.in_default-bad_link.ensures c.in_default-bad_record.ensures) c.in_default-bad_order.ensures))

@@ -15,11 +15,11 @@ returns-then-k-eq0 c =
     let i = c.args.most - c.loop-step.-step in
     sym (c.loop-step.invariant ∙ ap (λ k. value_in ws (chain i ws k) c.args.v) c.if-k-eq0.true ∙ walk_end ws c.args.v i)
 
-pub returns-then-variable-of-v : goal.returns-then-variable-of-v
-returns-then-variable-of-v c =
+pub returns-then-variable_of-v : goal.returns-then-variable_of-v
+returns-then-variable_of-v c =
     let i = c.args.most - c.loop-step.-step in
-    ap Some c.value-of.ensures
-    ∙ sym (c.loop-step.invariant ∙ walk_here c.args.words.now c.loop-step.k c.args.v i (omega (arith, c.loop-step-test.true)) (omega (arith, c.if-k-eq0.false)) (sym c.variable-of.ensures ∙ c.if-variable-of-v.true))
+    ap Some c.value_of.ensures
+    ∙ sym (c.loop-step.invariant ∙ walk_here c.args.words.now c.loop-step.k c.args.v i (omega (arith, c.loop-step-test.true)) (omega (arith, c.if-k-eq0.false)) (sym c.variable_of.ensures ∙ c.if-variable_of-v.true))
 
 pub loop-step-preserved : goal.loop-step-preserved
 loop-step-preserved c =
@@ -29,8 +29,8 @@ loop-step-preserved c =
     let e : i ≡ suc j = omega (arith, c.loop-step-test.true) in
     let low : 1 ≤ c.loop-step.k = omega (arith, c.if-k-eq0.false) in
     c.loop-step.invariant
-    ∙ walk_on ws c.loop-step.k c.args.v i j e low (λ q. c.if-variable-of-v.false (c.variable-of.ensures ∙ q))
-    ∙ ap (λ k. value_in ws (chain j ws k) c.args.v) (sym c.next-of-k.ensures)
+    ∙ walk_on ws c.loop-step.k c.args.v i j e low (λ q. c.if-variable_of-v.false (c.variable_of.ensures ∙ q))
+    ∙ ap (λ k. value_in ws (chain j ws k) c.args.v) (sym c.next_of-k.ensures)
 
 pub returns : goal.returns
 returns c =

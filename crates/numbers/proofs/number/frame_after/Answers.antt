@@ -3,8 +3,8 @@ use Rattle.numbers.specs.Numbers.{count}
 use Rattle.numbers.proofs.Windows.{count_le, among_length, choose_small}
 use Rattle.numbers.proofs.number.frame_after.Goals as goal
 
-pub overflow-add-number : goal.overflow-add-number
-overflow-add-number c =
+pub overflow_add-number : goal.overflow_add-number
+overflow_add-number c =
     let cs = c.args.candidates in
     let k = count c.args.mask 32 0 in
     omega (arith, c.in-Some.ensures.number.0, among_length cs 32 0 k, choose_small (count cs 32 0) k (count_le cs 32 0))

@@ -31,25 +31,25 @@ loop-v-preserved-then-not-contains c =
       c.loop-v.invariant.3,
     )
 
-pub overflow-sub-left : goal.overflow-sub-left
-overflow-sub-left c = omega (arith, c.loop-v.invariant.0, count_up_in c.loop-v.v c.loop-v-test.true c.args.candidates (sym c.if-not-contains.ensures))
+pub overflow_sub-left : goal.overflow_sub-left
+overflow_sub-left c = omega (arith, c.loop-v.invariant.0, count_up_in c.loop-v.v c.loop-v-test.true c.args.candidates (sym c.if-not-contains.ensures))
 
-pub overflow-sub-wanted : goal.overflow-sub-wanted
-overflow-sub-wanted c = omega (arith, c.loop-v.invariant.1, count_up_in c.loop-v.v c.loop-v-test.true c.args.mask (sym c.if-contains-2.ensures))
+pub overflow_sub-wanted : goal.overflow_sub-wanted
+overflow_sub-wanted c = omega (arith, c.loop-v.invariant.1, count_up_in c.loop-v.v c.loop-v-test.true c.args.mask (sym c.if-contains-2.ensures))
 
-pub sets-before-number-requires : goal.sets-before-number-requires
-sets-before-number-requires c =
+pub sets_before-number-requires : goal.sets_before-number-requires
+sets_before-number-requires c =
     let v = c.loop-v.v in
     (omega (arith, c.loop-v.invariant.0, count_le c.args.candidates (32 - v) v), omega (arith, c.loop-v.invariant.1, count_le c.args.mask (32 - v) v))
 
-pub overflow-add-number : goal.overflow-add-number
-overflow-add-number c =
+pub overflow_add-number : goal.overflow_add-number
+overflow_add-number c =
     let v = c.loop-v.v in
     let cs = c.args.candidates in
     let f = c.args.mask in
     let one = count_up_in v c.loop-v-test.true cs (sym c.if-not-contains.ensures) in
     let fewer : c.loop-v.left - 1 ≡ count cs (32 - (v + 1)) (v + 1) = omega (arith, c.loop-v.invariant.0, one) in
-    let over : c.sets-before-number.result ≡ before (count cs (32 - (v + 1)) (v + 1)) c.loop-v.wanted = c.sets-before-number.ensures ∙ ap (λ a. before a c.loop-v.wanted) fewer in
+    let over : c.sets_before-number.result ≡ before (count cs (32 - (v + 1)) (v + 1)) c.loop-v.wanted = c.sets_before-number.ensures ∙ ap (λ a. before a c.loop-v.wanted) fewer in
     let next = mask_without v c.loop-v-test.true (frames cs (count f 32 0)) cs c.loop-v.number f c.loop-v.wanted (sym c.if-not-contains.ensures) (sym c.if-contains-2.ensures) c.loop-v.invariant.2 in
     omega (arith, over, next.fits, among_length cs 32 0 (count f 32 0), choose_small (count cs 32 0) (count f 32 0) (count_le cs 32 0))
 
@@ -74,7 +74,7 @@ loop-v-preserved c =
       | else-contains-2 w ↦
           let none : has f v ≡ false = sym w.if-contains-2.ensures in
           let next = mask_without v c.loop-v-test.true all cs c.loop-v.number f c.loop-v.wanted is none c.loop-v.invariant.2 in
-          let over : w.sets-before-number.result ≡ before (count cs (32 - (v + 1)) (v + 1)) c.loop-v.wanted = w.sets-before-number.ensures ∙ ap (λ a. before a c.loop-v.wanted) fewer in
+          let over : w.sets_before-number.result ≡ before (count cs (32 - (v + 1)) (v + 1)) c.loop-v.wanted = w.sets_before-number.ensures ∙ ap (λ a. before a c.loop-v.wanted) fewer in
           let number : c.if-contains-2.number ≡ c.loop-v.number + before (count cs (32 - (v + 1)) (v + 1)) c.loop-v.wanted = w.number-is ∙ ap (λ x. c.loop-v.number + x) over in
           (fewer, w.wanted-is ∙ c.loop-v.invariant.1 ∙ count_up_out v c.loop-v-test.true f none, window_at all cs v (f % 2 ^ (v + 1)) (sym w.wanted-is) (sym number) next, c.loop-v.invariant.3)
     ]

@@ -36,11 +36,11 @@ loop-v-preserved-then-not-contains c =
       goes_past v c.loop-v-test.true (frames cs c.args.k) c.args.number cs c.loop-v.rest c.loop-v.mask c.loop-v.wanted out c.loop-v.invariant.3,
     )
 
-pub overflow-sub-left : goal.overflow-sub-left
-overflow-sub-left c = omega (arith, c.loop-v.invariant.0, count_up_in c.loop-v.v c.loop-v-test.true c.args.candidates (sym c.if-not-contains.ensures))
+pub overflow_sub-left : goal.overflow_sub-left
+overflow_sub-left c = omega (arith, c.loop-v.invariant.0, count_up_in c.loop-v.v c.loop-v-test.true c.args.candidates (sym c.if-not-contains.ensures))
 
-pub sets-before-with-requires : goal.sets-before-with-requires
-sets-before-with-requires c =
+pub sets_before-with-requires : goal.sets_before-with-requires
+sets_before-with-requires c =
     let v = c.loop-v.v in
     (omega (arith, c.loop-v.invariant.0, count_le c.args.candidates (32 - v) v), omega (arith, c.loop-v.invariant.1))
 
@@ -53,7 +53,7 @@ loop-v-preserved c =
     let is : has cs v ≡ true = sym c.if-not-contains.ensures in
     let more = count cs (32 - (v + 1)) (v + 1) in
     let fewer : c.loop-v.left - 1 ≡ more = omega (arith, c.loop-v.invariant.0, count_up_in v h cs is) in
-    let with : c.sets-before-with.result ≡ before more c.loop-v.wanted = c.sets-before-with.ensures ∙ ap (λ a. before a c.loop-v.wanted) fewer in
+    let with : c.sets_before-with.result ≡ before more c.loop-v.wanted = c.sets_before-with.ensures ∙ ap (λ a. before a c.loop-v.wanted) fewer in
     elim c.if-rest-with.branch [
       | then-rest-with w ↦
           let k = c.loop-v.wanted - 1 in

@@ -9,15 +9,15 @@ returns-then-at-pool c =
     let r = c.args.shelf.now in
     sym (window_beyond c.args.pool.now r.at (bytes_for r.frame.size) c.args.c (omega arith))
 
-pub returns-then-c-bytes-for : goal.returns-then-c-bytes-for
-returns-then-c-bytes-for c =
+pub returns-then-c-bytes_for : goal.returns-then-c-bytes_for
+returns-then-c-bytes_for c =
     let r = c.args.shelf.now in
-    let k : c.bytes-for.result ≡ bytes_for r.frame.size = c.bytes-for.ensures ∙ ap bytes_for c.size.ensures in
-    c.bit.ensures ∙ window_in c.args.pool.now r.at (bytes_for r.frame.size) c.args.c (omega (arith, k, c.if-c-bytes-for.true))
+    let k : c.bytes_for.result ≡ bytes_for r.frame.size = c.bytes_for.ensures ∙ ap bytes_for c.size.ensures in
+    c.bit.ensures ∙ window_in c.args.pool.now r.at (bytes_for r.frame.size) c.args.c (omega (arith, k, c.if-c-bytes_for.true))
 
-pub returns-else-c-bytes-for : goal.returns-else-c-bytes-for
-returns-else-c-bytes-for c =
+pub returns-else-c-bytes_for : goal.returns-else-c-bytes_for
+returns-else-c-bytes_for c =
     let r = c.args.shelf.now in
-    let k : c.bytes-for.result ≡ bytes_for r.frame.size = c.bytes-for.ensures ∙ ap bytes_for c.size.ensures in
-    le-ltb (c.args.c / 8) c.bytes-for.result c.if-c-bytes-for.false
-    ∙ sym (window_out c.args.pool.now r.at (bytes_for r.frame.size) c.args.c (omega (arith, k, c.if-c-bytes-for.false)))
+    let k : c.bytes_for.result ≡ bytes_for r.frame.size = c.bytes_for.ensures ∙ ap bytes_for c.size.ensures in
+    le-ltb (c.args.c / 8) c.bytes_for.result c.if-c-bytes_for.false
+    ∙ sym (window_out c.args.pool.now r.at (bytes_for r.frame.size) c.args.c (omega (arith, k, c.if-c-bytes_for.false)))

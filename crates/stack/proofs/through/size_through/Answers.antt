@@ -8,7 +8,7 @@ pub loop-layer-preserved : goal.loop-layer-preserved
 loop-layer-preserved c =
     let v = c.args.v in
     c.loop-layer.invariant
-    ∙ passed_more (λ l x. layer_size l v x) (λ ls x. stack_size ls v x) (λ l ls x. refl) c.args.layers.now c.loop-layer.layer-index (Keep 0) c.loop-layer.size c.layer-size-size.result c.loop-layer-test.true c.layer-size-size.ensures
+    ∙ passed_more (λ l x. layer_size l v x) (λ ls x. stack_size ls v x) (λ l ls x. refl) c.args.layers.now c.loop-layer.layer-index (Keep 0) c.loop-layer.size c.layer_size-size.result c.loop-layer-test.true c.layer_size-size.ensures
 
 pub returns : goal.returns
 returns c =

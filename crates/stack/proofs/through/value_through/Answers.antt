@@ -8,7 +8,7 @@ pub loop-layer-preserved : goal.loop-layer-preserved
 loop-layer-preserved c =
     let v = c.args.v in
     c.loop-layer.invariant
-    ∙ passed_more (λ l x. layer_image l v x) (λ ls x. stack_image ls v x) (λ l ls x. refl) c.args.layers.now c.loop-layer.layer-index (Keep 0) c.loop-layer.value c.layer-value-value.result c.loop-layer-test.true c.layer-value-value.ensures
+    ∙ passed_more (λ l x. layer_image l v x) (λ ls x. stack_image ls v x) (λ l ls x. refl) c.args.layers.now c.loop-layer.layer-index (Keep 0) c.loop-layer.value c.layer_value-value.result c.loop-layer-test.true c.layer_value-value.ensures
 
 pub returns : goal.returns
 returns c =

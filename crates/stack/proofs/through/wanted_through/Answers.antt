@@ -8,7 +8,7 @@ pub loop-layer-preserved : goal.loop-layer-preserved
 loop-layer-preserved c =
     let v = c.args.v in
     c.loop-layer.invariant
-    ∙ passed_more (λ l x. layer_wanted l v x) (λ ls x. stack_wanted ls v x) (λ l ls x. refl) c.args.layers.now c.loop-layer.layer-index (Keep 0) c.loop-layer.value c.layer-wanted-value.result c.loop-layer-test.true c.layer-wanted-value.ensures
+    ∙ passed_more (λ l x. layer_wanted l v x) (λ ls x. stack_wanted ls v x) (λ l ls x. refl) c.args.layers.now c.loop-layer.layer-index (Keep 0) c.loop-layer.value c.layer_wanted-value.result c.loop-layer-test.true c.layer_wanted-value.ensures
 
 pub returns : goal.returns
 returns c =

@@ -6,10 +6,10 @@ use Rattle.model.specs.Tasks.{Leads, position}
 use Rattle.task.proofs.Planning.{not_followed, first_long, first_unknown, first_blocked, follow_more}
 use Rattle.task.proofs.plan.follow.Goals as goal
 
-pub returns-then-operators-gt-MAX-PLAN : goal.returns-then-operators-gt-MAX-PLAN
-returns-then-operators-gt-MAX-PLAN g c =
+pub returns-then-operators-gt-MAX_PLAN : goal.returns-then-operators-gt-MAX_PLAN
+returns-then-operators-gt-MAX_PLAN g c =
     let t = g.S.TaskSource.task c.args.source.now in
-    let f = first_long t c.args.operators.now c.if-operators-gt-MAX-PLAN.true in
+    let f = first_long t c.args.operators.now c.if-operators-gt-MAX_PLAN.true in
     record { reaches = f; exact = not_followed t c.args.operators.now _ f.0 }
 
 pub returns-in-Some : goal.returns-in-Some

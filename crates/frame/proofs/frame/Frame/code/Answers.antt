@@ -7,8 +7,8 @@ use Rattle.frame.proofs.Measuring.{code_in, code_out, stride_small}
 use Rattle.frame.proofs.frame.Frame.code.Goals as goal
 use Rattle.frame.proofs.frame.Frame.code.Goals.{then-contains, else-contains}
 
-pub overflow-add-code : goal.overflow-add-code
-overflow-add-code c =
+pub overflow_add-code : goal.overflow_add-code
+overflow_add-code c =
     let s = c.args.self.now in
     let v = c.loop-v.v in
     let small = stride_small s.sizes s.mask s.n s.size v s.sized s.whole s.small (omega arith) in

@@ -13,8 +13,8 @@ loop-v-preserved g c =
     let p = values_by (size_in s.sizes) s.mask c.args.c in
     let v = c.loop-v.v in
     let values = c.loop-v.values in (
-      length-set values v c.unwrap-or.result ∙ c.loop-v.invariant.0,
-      made_more (after t c.args.o p) values v c.unwrap-or.result c.value.result c.kept.result (omega arith) c.unwrap-or.ensures
+      length-set values v c.unwrap_or.result ∙ c.loop-v.invariant.0,
+      made_more (after t c.args.o p) values v c.unwrap_or.result c.value.result c.kept.result (omega arith) c.unwrap_or.ensures
           (ap (λ w. put w c.value.result) (c.kept.ensures ∙ ap (λ w. cond (has s.mask v) w None) c.made.ensures) ∙ ap (put (t.made c.args.o v)) c.value.ensures)
           c.loop-v.invariant.1,
     )

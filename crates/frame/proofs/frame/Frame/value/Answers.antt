@@ -8,8 +8,8 @@ use Rattle.frame.proofs.Measuring.{size_in_below, stride_small}
 use Rattle.frame.proofs.frame.Frame.value.Goals as goal
 use Rattle.frame.proofs.frame.Frame.value.Goals.{else-v-self-via-then-v-self+else-contains, else-v-self-via-else-v-self}
 
-pub nonzero-div-result : goal.nonzero-div-result
-nonzero-div-result c =
+pub nonzero_div-result : goal.nonzero_div-result
+nonzero_div-result c =
     let s = c.args.self.now in
     let v = c.args.v in
     omega (arith, s.strided v c.if-v-self.true, (stride_small s.sizes s.mask s.n s.size v s.sized s.whole s.small (omega (arith, c.if-v-self.true))).0)
