@@ -56,7 +56,7 @@ pub none_more : (ws : List ℕ) (k : ℕ) → NoneBelow ws k → ((i : ℕ) → 
 none_more ws k low none = firsts.none_more number place fault back (CardWrong ws) k low none
 
 pub first_at : (ws : List ℕ) (k i : ℕ) → NoneBelow ws k → Least (λ j. CardWrong ws (fault k j)) (Some i) → number (fault k i) ≡ k → place (fault k i) ≡ i → First card_turn (CardWrong ws) (fault k i)
-first_at ws k i low least n p = firsts.first-at number place fault back (CardWrong ws) k i low least n p
+first_at ws k i low least n p = firsts.first_at number place fault back (CardWrong ws) k i low least n p
 
 -- ---- words without a fault are a card
 

@@ -20,25 +20,22 @@ measure-requires g c =
       omega (arith, c.variables-n.ensures, (g.S.TaskSource.lawful s).variables.1),
     )
 
-pub invariant-of-result : goal.invariant-of-result
-invariant-of-result g c =
+pub invariant_of-result : goal.invariant_of-result
+invariant_of-result g c =
     let s = c.args.source.now in
     let t = g.S.TaskSource.task s in
     let law = g.S.TaskSource.lawful s in
     let m = c.in-Ok.ensures in
-    let legal : c.args.mask < 2 ^ t.n = within t law c.args.mask (omega (arith, c.if-mask-eq0.false)) (λ v w. c.in_default.ensures v (omega (arith, w.0, c.variables-n.ensures), w.1)) in (
-      omega (arith, c.variables-n.ensures, law.variables.1),
-      (
-        omega (arith, c.if-mask-eq0.false),
-        (
-          subst (λ n. c.args.mask < 2 ^ n) (sym c.variables-n.ensures) legal,
-          (
-            sized t law c.sizes_of-sizes.result c.sizes_of-sizes.ensures,
-            (m.0, (m.1, (m.2, tt))),
-          ),
-        ),
-      ),
-    )
+    let legal : c.args.mask < 2 ^ t.n = within t law c.args.mask (omega (arith, c.if-mask-eq0.false)) (λ v w. c.in_default.ensures v (omega (arith, w.0, c.variables-n.ensures), w.1)) in
+    record {
+      few = omega (arith, c.variables-n.ensures, law.variables.1);
+      some = omega (arith, c.if-mask-eq0.false);
+      legal = subst (λ n. c.args.mask < 2 ^ n) (sym c.variables-n.ensures) legal;
+      sized = sized t law c.sizes_of-sizes.result c.sizes_of-sizes.ensures;
+      strided = m.0;
+      whole = m.1;
+      small = m.2;
+    }
 
 pub returns-in-Ok : goal.returns-in-Ok
 returns-in-Ok g c =

@@ -10,5 +10,13 @@ sized v h = let e : get_or {A = ℕ} (replicate 32 1) v 0 ≡ 1 = get_or-replica
 strided : Strided (replicate 32 1) 1 1 (replicate 32 1)
 strided v h = let e : 0 ≡ v = omega arith in subst (λ u. get_or (replicate 32 1) u 0 ≡ width_by (size_in (replicate 32 1)) 1 u) e refl
 
-pub invariant-of-result : goal.invariant-of-result
-invariant-of-result c = (lit≤ tt, (lit< tt, (lit< tt, (sized, (strided, (refl, (lit≤ tt, tt)))))))
+pub invariant_of-result : goal.invariant_of-result
+invariant_of-result c = record {
+  few = lit≤ tt;
+  some = lit< tt;
+  legal = lit< tt;
+  sized = sized;
+  strided = strided;
+  whole = refl;
+  small = lit≤ tt;
+}
