@@ -1,5 +1,5 @@
 -- Which fault of a group is tried first, and when nothing is wrong.
-use Rattle.std.proofs.Common.{◌≡◌, ℕ, ◌<◌, ◌≤◌, true, T, List, length, Some, None, sym, subst, arith}
+use Rattle.std.proofs.Common.{◌≡◌, ℕ, ◌<◌, ◌≤◌, true, List, length, Some, None, arith}
 use Rattle.model.proofs.Truths.{true_T, T_true}
 use Rattle.model.specs.Tasks.{Task}
 use Rattle.model.specs.Orders.{Earlier, First, Least}

@@ -1,9 +1,9 @@
 -- A claim's set, code by code: what the tests of one code tell, and which fault is tried first.
-use Rattle.std.proofs.Common.{◌≡◌, ℕ, ◌+◌, ◌<◌, Bool, true, false, not, ◌&&◌, T, List, Some, Decides, sym, refl, ap, ◌∙◌, subst, subst₂, ⊎_elim, arith, below_more}
+use Rattle.std.proofs.Common.{◌≡◌, ℕ, ◌+◌, ◌<◌, Bool, true, false, not, ◌&&◌, T, List, Some, Decides, sym, ap, ◌∙◌, subst, subst₂, ⊎_elim, arith, below_more}
 use Rattle.std.proofs.lemmas.Bool.{false≢true}
-use Rattle.model.specs.Tasks.{Task, Position, Lawful, Legal, Applies, after, IsGoal}
+use Rattle.model.specs.Tasks.{Task, Position, Lawful, Applies, after, IsGoal}
 use Rattle.model.specs.Orders.{Earlier, First}
-use Rattle.model.specs.Frames.{onto, width_by, code_by, values_by, code, frame_size, values}
+use Rattle.model.specs.Frames.{onto, width_by, values_by, code, frame_size, values}
 use Rattle.model.proofs.Truths.{true_T, T_true, both, both_first, both_second}
 use Rattle.model.proofs.Coding.{values_legal, values_code}
 use Rattle.model.proofs.LeavingOut.{leave_out_lawful}

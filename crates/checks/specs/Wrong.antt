@@ -1,5 +1,5 @@
 -- What can be wrong with what a call of the register is given, in groups.
-use Rattle.std.specs.Prelude.{◌≡◌, ℕ, ◌<◌, ◌≤◌, Bool, not, T, List, length, Some, None, Ok, Err, Option, Result, ◌≢◌}
+use Rattle.std.specs.Prelude.{ℕ, ◌<◌, ◌≤◌, Bool, not, T, List, length, Some, None, Ok, Err, Option, Result, ◌≢◌}
 use Rattle.model.specs.Tasks.{Task, Applies, after, IsGoal}
 use Rattle.model.specs.Orders.{First}
 use Rattle.model.specs.Frames.{onto, code, frame_size, values}

@@ -5,7 +5,7 @@ use Rattle.model.specs.Tasks.{Task, Lawful}
 use Rattle.model.specs.Orders.{Earlier, First}
 use Rattle.model.specs.LeaveOut.{has}
 use Rattle.model.specs.Frames.{width, frame_size, OneForOne, IsFrame}
-use Rattle.model.proofs.Masks.{has_below, has_none, mask_below}
+use Rattle.model.proofs.Masks.{has_none, mask_below}
 use Rattle.model.proofs.Coding.{width_up, one_for_one}
 use Rattle.frame.specs.declared.fault.FrameFault.{FrameFault}
 use Rattle.frame.specs.declared.fault.FrameFault.TheVariants.{EmptyMask, NoSuchVariable, TooLarge}

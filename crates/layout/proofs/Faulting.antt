@@ -1,14 +1,14 @@
 -- Which fault of a card is tried first, and what words without a fault are.
-use Rattle.std.proofs.Common.{◌≡◌, ℕ, suc, ◌+◌, ◌<◌, ◌≤◌, cond, eqb, ◌⊎◌, List, length, Some, refl, inl, inr, ⊎_elim, arith}
+use Rattle.std.proofs.Common.{◌≡◌, ℕ, suc, ◌+◌, ◌<◌, ◌≤◌, cond, eqb, List, length, Some, refl, inl, inr, ⊎_elim, arith}
 use Rattle.std.proofs.lemmas.Bool.{cases_lt, cases_eq}
 use Rattle.model.specs.Orders.{First, Least}
-use Rattle.model.specs.Card.{word, variables, operators, records, size_at, start_at, goal_at, variable_of, value_of, next_at, next_of, card_length, IsRecord, Version, Counts, Length, Sizes, Starts, Heads, Nexts, Records, Ascends, IsCard, WholeChain}
+use Rattle.model.specs.Card.{word, variables, operators, records, size_at, start_at, goal_at, variable_of, value_of, next_at, next_of, card_length, Version, Counts, Length, Sizes, Starts, Heads, Nexts, Records, Ascends, IsCard, WholeChain}
 use Rattle.model.proofs.Firsts as firsts
 use Rattle.model.proofs.Chains.{chain_whole}
 use Rattle.layout.specs.declared.fault.CardFault.{CardFault}
 use Rattle.layout.specs.declared.fault.CardFault.TheVariants.{TooShort, OtherVersion, BadCount, WrongLength, BadSize, BadStart, BadLink, BadRecord, BadOrder}
 use Rattle.layout.specs.Faults.{number, place, card_turn}
-use Rattle.layout.specs.Wrong.{CardWrong, NoneBelow, Reads}
+use Rattle.layout.specs.Wrong.{CardWrong, NoneBelow}
 
 -- ---- the fault with a number at a place
 

@@ -1,7 +1,7 @@
 -- The task of a card keeps the limits.
-use Rattle.std.proofs.Common.{◌≡◌, ℕ, zero, suc, ◌+◌, ◌*◌, ◌<◌, ◌≤◌, Bool, true, false, cond, eqb, ltb, ◌⊎◌, List, [], ◌∷◌, Some, None, Option, sym, refl, ap, ◌∙◌, subst, inl, inr, ⊎_elim, arith}
+use Rattle.std.proofs.Common.{◌≡◌, ℕ, zero, suc, ◌+◌, ◌*◌, ◌<◌, ◌≤◌, cond, eqb, ltb, ◌⊎◌, List, [], ◌∷◌, Some, None, Option, sym, ◌∙◌, subst, inl, inr, ⊎_elim, arith}
 use Rattle.std.proofs.lemmas.Bool.{cases_lt, cond_both, cond-true, cond-false, lt-ltb, le-ltb, eqb-true, eqb-false}
-use Rattle.model.specs.Tasks.{Task, Lawful, Within}
+use Rattle.model.specs.Tasks.{Lawful, Within}
 use Rattle.model.specs.Card.{word, variables, operators, records, size_at, start_at, goal_at, needed_at, made_at, variable_of, value_of, next_of, chain, value_in, chained, card, Counts, Sizes, Starts, Heads, IsRecord, Nexts, Records}
 use Rattle.model.proofs.Options.{none≢some, some_same, within_from, none_from}
 

@@ -1,11 +1,11 @@
 -- A task in which two values are one keeps the limits, and is a reduction.
-use Rattle.std.proofs.Common.{◌≡◌, ℕ, ◌-◌, ◌<◌, ◌≤◌, Bool, true, false, cond, ◌&&◌, eqb, ltb, Some, None, Option, sym, refl, ap, arith}
+use Rattle.std.proofs.Common.{◌≡◌, ℕ, ◌<◌, ◌≤◌, cond, eqb, Some, None, Option, refl, ap, arith}
 use mathlib.Core.Path.{fun_ext}
 use Rattle.std.specs.Option.{option_map}
 use Rattle.std.proofs.lemmas.Bool.Decides.{nat_tests}
-use Rattle.model.specs.Tasks.{Task, Position, Lawful, Legal, Within, Holds, put, Applies}
+use Rattle.model.specs.Tasks.{Task, Lawful, Within, Holds, put}
 use Rattle.model.specs.Reductions.{Reduces, image_of}
-use Rattle.model.specs.Join.{folded, joins, joined_size, join}
+use Rattle.model.specs.Join.{joins, joined_size, join}
 use Rattle.model.proofs.Positions.{applies_all, applies_needs}
 
 -- a value within the size goes within the new size

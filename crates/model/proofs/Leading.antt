@@ -1,5 +1,5 @@
 -- Following operators: where they lead is one place, and all of them are known and apply.
-use Rattle.std.proofs.Common.{◌≡◌, ℕ, zero, suc, ◌<◌, ◌≤◌, List, [], ◌∷◌, ◌++◌, length, get_or, sym, refl, ap, ◌∙◌, subst, arith}
+use Rattle.std.proofs.Common.{◌≡◌, ℕ, zero, suc, ◌<◌, List, [], ◌∷◌, ◌++◌, length, get_or, sym, refl, ◌∙◌, subst, arith}
 use Rattle.model.specs.Tasks.{Task, Position, Applies, after, Leads}
 
 pub leads_once : (t : Task) (os : List ℕ) (p q r : Position) → Leads t os p q → Leads t os p r → q ≡ r

@@ -1,9 +1,9 @@
 -- A task with only some of its variables keeps the limits, and is a reduction.
-use Rattle.std.proofs.Common.{◌≡◌, ℕ, zero, suc, ◌<◌, ◌≤◌, Bool, true, false, cond, ◌&&◌, Some, None, Option, sym, refl, inr, ⊎_elim, arith}
+use Rattle.std.proofs.Common.{◌≡◌, ℕ, zero, suc, ◌<◌, ◌≤◌, Bool, true, false, cond, ◌&&◌, None, Option, sym, refl, inr, ⊎_elim, arith}
 use mathlib.Core.Path.{fun_ext}
 use Rattle.std.proofs.lemmas.Bool.{cases_lt, cond-true, cond_both}
 use Rattle.std.proofs.lemmas.Bool.Decides.{Decides-below_and}
-use Rattle.model.specs.Tasks.{Task, Position, Lawful, Legal, Within, Holds, put, Applies}
+use Rattle.model.specs.Tasks.{Task, Lawful, Within, Holds, put}
 use Rattle.model.specs.Reductions.{Reduces, image_of}
 use Rattle.model.specs.LeaveOut.{has, leave_out, kept}
 use Rattle.model.proofs.Positions.{start_outside, applies_all, applies_needs}

@@ -1,6 +1,6 @@
 -- Reductions carry operator lists up and hopelessness down, and compose.
-use Rattle.std.proofs.Common.{◌≡◌, ℕ, ◌<◌, List, [], ◌∷◌, Some, None, Option, sym, refl, ap, ◌∙◌, subst}
-use Rattle.model.specs.Tasks.{Task, Position, Legal, Within, Lawful, put, Applies, after, IsGoal, Leads, Hopeless, Plan}
+use Rattle.std.proofs.Common.{ℕ, ◌<◌, List, [], ◌∷◌, Some, None, Option, sym, refl, ap, ◌∙◌, subst}
+use Rattle.model.specs.Tasks.{Task, Position, Legal, Within, Lawful, put, after, Leads, Hopeless}
 use Rattle.model.specs.Reductions.{image_of, Reduces, PlansGoUp, HopelessGoesDown, ReductionsCompose}
 
 put_within : (w : Option ℕ) (x k : ℕ) → Within w k → x < k → put w x < k

@@ -1,5 +1,5 @@
 -- Each smaller set of variables lies inside one of exactly k.
-use Rattle.std.proofs.Common.{◌≡◌, ℕ, zero, suc, ◌+◌, ◌*◌, ◌/◌, ◌%◌, ◌^◌, ◌<◌, ◌≤◌, min, T, eqb, [], ◌∷◌, map, sym, refl, ap, ◌∙◌, subst, inl, ⊎_elim, arith, eqb→eq}
+use Rattle.std.proofs.Common.{◌≡◌, ℕ, zero, suc, ◌+◌, ◌*◌, ◌/◌, ◌%◌, ◌^◌, ◌<◌, ◌≤◌, min, T, eqb, map, sym, refl, ap, ◌∙◌, subst, inl, ⊎_elim, arith, eqb→eq}
 use lib.Bits.{bit_and, and_step}
 use lib.Count.{ones, ones_step, ones-le}
 use lib.Dec.{eqb_refl}

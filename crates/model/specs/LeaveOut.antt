@@ -1,5 +1,5 @@
 -- Leave-out: the task with only a set of its variables. Every other one gets size 1, value 0, and no needed, made or goal value.
-use Rattle.std.specs.Prelude.{◌≡◌, ℕ, ◌/◌, ◌%◌, ◌^◌, Bool, cond, None, ◌==◌}
+use Rattle.std.specs.Prelude.{ℕ, ◌/◌, ◌%◌, ◌^◌, Bool, cond, None, ◌==◌}
 use Rattle.model.specs.Tasks.{Task}
 
 -- A set of variables is a mask: bit v stands for the variable v.

@@ -1,6 +1,6 @@
 -- How one task reduces to another: a coarser task in which every plan of the finer one can be followed.
 use Rattle.std.specs.Prelude.{◌≡◌, ℕ, ◌<◌, cond, ◌&&◌, List, Some, None, Option, nat_lt}
-use Rattle.model.specs.Tasks.{Task, Position, Legal, Lawful, Applies, after, IsGoal, Hopeless, Plan}
+use Rattle.model.specs.Tasks.{Task, Position, Legal, Applies, after, IsGoal, Hopeless, Plan}
 
 -- each value of each variable has an image; the image of a position has the images of its values
 abbrev pub image_of : (ℕ → ℕ → ℕ) → Position → Position

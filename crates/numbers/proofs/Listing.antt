@@ -1,7 +1,7 @@
 -- The list of all sets of k candidates has each of them, and is in the order of their ascending lists.
 use Rattle.std.proofs.Common.{◌≡◌, ℕ, zero, suc, ◌+◌, ◌-◌, ◌*◌, ◌/◌, ◌%◌, ◌^◌, ◌<◌, ◌≤◌, min, Bool, true, false, cond, eqb, List, [], ◌∷◌, ◌++◌, map, sym, refl, ap, ◌∙◌, subst, mul_assoc, pow-suc, mul-add, arith}
 use mathlib.Core.List.{map-append}
-use native.Mathlib.Nat.{div-div-eq-div-mul, div-eq_of_lt}
+use native.Mathlib.Nat.{div-div-eq-div-mul}
 use lib.Count.{ones, ones_step, ones-le}
 use Rattle.model.specs.LeaveOut.{has}
 use Rattle.model.specs.Frames.{choose, In, InOrder}

@@ -1,5 +1,5 @@
 -- The walk up the variables of a mask, one variable more.
-use Rattle.std.proofs.Common.{◌≡◌, ℕ, zero, suc, ◌+◌, ◌-◌, ◌*◌, ◌/◌, ◌%◌, ◌^◌, ◌<◌, ◌≤◌, true, false, eqb, List, [], ◌∷◌, length, get_or, sym, refl, ap, ◌∙◌, subst, ⊎_elim, mod-eq_of_lt, arith, lit<, pow_pos, pow_mono}
+use Rattle.std.proofs.Common.{◌≡◌, ℕ, zero, suc, ◌+◌, ◌-◌, ◌*◌, ◌/◌, ◌%◌, ◌^◌, ◌<◌, ◌≤◌, true, false, List, [], ◌∷◌, length, get_or, sym, refl, ap, ◌∙◌, subst, mod-eq_of_lt, arith, lit<, pow_pos, pow_mono}
 use lib.Arith.{mod-mul}
 use lib.Pow.{pow-lt}
 use Rattle.std.proofs.lemmas.Bool.{eqb-true, eqb-false}

@@ -1,8 +1,11 @@
 // From a frame to its number and back.
-ghost use Rattle.std.specs.Prelude.{◌≡◌, length};
-ghost use Rattle.numbers.specs.Numbers.{count, frames, Listed, Lowest, Numbered, FrameOf, FrameAfter};
+ghost use Rattle.std.specs.Prelude.{◌≡◌, ◌<◌, length, slice_index};
+ghost use Rattle.numbers.specs.Numbers.{frames, Listed, Lowest, Numbered, FrameOf, FrameAfter};
 
-use crate::walk::{lowest, members, place_of, set_at, sets_of};
+use crate::walk::{lowest, members, sets_before};
+use counts::subsets;
+use task::mask::contains;
+use task::moves::MAX_VARIABLES;
 
 // The mask of the variables below n, of which there are 32 at most.
 pub fn all_variables(n: usize) -> u32
@@ -21,16 +24,31 @@ pub fn frame_count(candidates: u32, k: usize) -> u32
 
 // The number of a set of candidates among all that have as many variables.
 pub fn number_of(candidates: u32, mask: u32) -> Option<u32>
-    ensures number { Numbered candidates mask result }
-    ensures order { Listed candidates (count mask 32 0) }
+    ensures { Numbered candidates mask result }
 {
-    place_of(candidates, mask)
+    let mut left = members(candidates);
+    let mut wanted = members(mask);
+    let mut number = 0;
+    for v in 0..MAX_VARIABLES {
+        if !contains(candidates, v) {
+            if contains(mask, v) {
+                return None;
+            }
+            continue;
+        }
+        left -= 1;
+        if contains(mask, v) {
+            wanted -= 1;
+        } else {
+            number += sets_before(left, wanted);
+        }
+    }
+    Some(number)
 }
 
 // The set of k candidates with this number.
 pub fn frame_of(candidates: u32, k: usize, number: u32) -> Option<u32>
-    ensures set { FrameOf candidates k number result }
-    ensures order { Listed candidates k }
+    ensures { FrameOf candidates k number result }
 {
     if number < sets_of(candidates, k) {
         Some(set_at(candidates, k, number))
@@ -39,12 +57,42 @@ pub fn frame_of(candidates: u32, k: usize, number: u32) -> Option<u32>
     }
 }
 
+// How many sets of k candidates there are.
+fn sets_of(candidates: u32, k: usize) -> u32
+    ensures { result ≡ length (frames candidates k) }
+{
+    subsets(members(candidates), k)
+}
+
+fn set_at(candidates: u32, k: usize, number: u32) -> u32
+    requires { number < length (frames candidates k) }
+    ensures { result ≡ slice_index (frames candidates k) number }
+{
+    let mut left = members(candidates);
+    let mut wanted = k;
+    let mut rest = number;
+    let mut mask = 0;
+    for v in 0..MAX_VARIABLES {
+        if !contains(candidates, v) {
+            continue;
+        }
+        left -= 1;
+        let with = sets_before(left, wanted);
+        if rest < with {
+            wanted -= 1;
+            mask += 1 << v;
+        } else {
+            rest -= with;
+        }
+    }
+    mask
+}
+
 // The set after this one, of those that have as many variables.
 pub fn frame_after(candidates: u32, mask: u32) -> Option<u32>
-    ensures next { FrameAfter candidates mask result }
-    ensures order { Listed candidates (count mask 32 0) }
+    ensures { FrameAfter candidates mask result }
 {
-    match place_of(candidates, mask) {
+    match number_of(candidates, mask) {
         Some(number) => frame_of(candidates, members(mask), number + 1),
         None => None,
     }

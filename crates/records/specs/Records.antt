@@ -1,7 +1,7 @@
 -- What the records and the pool hold.
-use Rattle.std.specs.Prelude.{◌≡◌, ℕ, ◌+◌, ◌<◌, ◌≤◌, Bool, false, ◌&&◌, ◌||◌, T, List, [], ◌∷◌, map, length, take, drop}
+use Rattle.std.specs.Prelude.{◌≡◌, ℕ, Bool, false, ◌&&◌, ◌||◌, List, [], ◌∷◌, map, take, drop}
 use Rattle.std.specs.List.{AllByRecursion as All}
-use Rattle.model.specs.Tasks.{Task, Position}
+use Rattle.model.specs.Tasks.{Position}
 use Rattle.model.specs.Frames.{strictly_inside, code_by}
 use Rattle.frame.specs.Held.{size_in}
 use Rattle.shelves.specs.Shelves as shelves

@@ -1,5 +1,5 @@
 -- What a register in memory holds.
-use Rattle.std.specs.Prelude.{◌≡◌, length, take, drop, Ok, Err, Result}
+use Rattle.std.specs.Prelude.{◌≡◌, length, take, Ok, Err, Result}
 use Rattle.model.specs.Tasks.{Task}
 use Rattle.model.specs.Orders.{First}
 use Rattle.frame.specs.Held.{size_in}

@@ -1,8 +1,8 @@
 -- What is wrong with a list of operators, and what of it is tried first.
-use Rattle.std.proofs.Common.{◌≡◌, ℕ, ◌+◌, ◌<◌, ◌≤◌, false, ◌⊎◌, List, [], ◌∷◌, ◌++◌, length, get_or, take, drop, Decides, sym, refl, ap, ◌∙◌, subst, inl, inr, ⊎_elim, arith, lit<, lit≤}
+use Rattle.std.proofs.Common.{◌≡◌, ℕ, ◌+◌, ◌<◌, ◌≤◌, false, List, [], ◌∷◌, ◌++◌, length, get_or, take, drop, Decides, sym, ap, ◌∙◌, subst, inl, inr, arith, lit<, lit≤}
 use Rattle.std.proofs.lemmas.Bool.{false≢true}
 use Rattle.std.proofs.lemmas.List.{take-append-drop, take_more, drop_more, length-take-le}
-use Rattle.model.specs.Tasks.{Task, Position, Lawful, Holds, Applies, after, Leads, Plan, position, advanced}
+use Rattle.model.specs.Tasks.{Task, Position, Lawful, Holds, Applies, after, Leads, position, advanced}
 use Rattle.model.specs.Orders.{Earlier, First}
 use Rattle.model.proofs.Leading.{leads_once, leads_known, leads_more, leads_next}
 use Rattle.model.proofs.Positions.{advanced_position}

@@ -1,6 +1,6 @@
-use Rattle.std.proofs.Common.{◌∷◌, Some, vec_items, sym, ap, ◌∙◌, subst}
+use Rattle.std.proofs.Common.{◌∷◌, Some, vec_items, ap, ◌∙◌, subst}
 use Rattle.std.specs.Option.{option_map}
-use Rattle.command.specs.Words.{Words, numerals}
+use Rattle.command.specs.Words.{Words}
 use Rattle.command.specs.Commands.{verb_of, with_numbers}
 use Rattle.command.proofs.Wording.{first_word}
 use Rattle.command.proofs.parse.parse.Goals as goal

@@ -1,6 +1,6 @@
-use Rattle.std.proofs.Common.{cond, Some, None, vec_items, sym, ap, ◌∙◌, subst}
+use Rattle.std.proofs.Common.{cond, Some, None, vec_items, sym, ap, ◌∙◌}
 use Rattle.std.specs.Option.{option_map}
-use Rattle.command.proofs.Wording.{Sofar, first_word, sofar_number, sofar_no_number, sofar_all}
+use Rattle.command.proofs.Wording.{first_word, sofar_number, sofar_no_number, sofar_all}
 use Rattle.command.proofs.words.numbers.Goals as goal
 use Rattle.command.proofs.words.numbers.Goals.{then-all, else-all}
 

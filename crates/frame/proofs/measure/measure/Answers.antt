@@ -1,6 +1,6 @@
-use Rattle.std.proofs.Common.{◌≡◌, ◌+◌, ◌*◌, ◌<◌, ◌≤◌, length, get_or, sym, ap, ◌∙◌, subst, arith, length-set}
+use Rattle.std.proofs.Common.{◌≡◌, ◌+◌, ◌*◌, ◌≤◌, get_or, sym, ap, ◌∙◌, subst, arith, length-set}
 use Rattle.model.specs.Frames.{width_by}
-use Rattle.frame.specs.Held.{size_in, Strided, Small}
+use Rattle.frame.specs.Held.{size_in, Strided}
 use Rattle.frame.proofs.Measuring.{size_in_below, width_in, width_out, passes_in, small_more, strided_more}
 use Rattle.frame.proofs.measure.measure.Goals as goal
 use Rattle.frame.proofs.measure.measure.Goals.{then-contains+else-size-gt-LIMIT, else-contains}

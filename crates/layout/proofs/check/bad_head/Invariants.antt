@@ -1,4 +1,4 @@
-use Rattle.std.proofs.Common.{ℕ, ◌+◌, ◌<◌, ◌≤◌}
+use Rattle.std.proofs.Common.{ℕ, ◌<◌, ◌≤◌}
 use Rattle.model.specs.Card.{word, goal_at, records}
 use Rattle.layout.proofs.check.bad_head.Given as goal
 

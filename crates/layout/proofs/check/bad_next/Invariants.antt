@@ -1,4 +1,4 @@
-use Rattle.std.proofs.Common.{ℕ, ◌+◌, ◌<◌, ◌≤◌}
+use Rattle.std.proofs.Common.{ℕ, ◌≤◌}
 use Rattle.model.specs.Card.{next_of, records}
 use Rattle.layout.proofs.check.bad_next.Given as goal
 

@@ -1,4 +1,4 @@
-use Rattle.std.proofs.Common.{ℕ, ◌+◌, ◌<◌, ◌≤◌}
+use Rattle.std.proofs.Common.{ℕ, ◌<◌, ◌≤◌}
 use Rattle.model.specs.Card.{variable_of, next_of}
 use Rattle.layout.proofs.check.bad_order.Given as goal
 

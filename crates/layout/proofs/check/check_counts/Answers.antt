@@ -1,5 +1,5 @@
-use Rattle.std.proofs.Common.{◌≡◌, ℕ, ◌<◌, ◌≤◌, List, length, sym, refl, ◌∙◌, arith}
-use Rattle.model.specs.Card.{word, card_length}
+use Rattle.std.proofs.Common.{◌≡◌, ℕ, ◌≤◌, List, length, sym, refl, ◌∙◌, arith}
+use Rattle.model.specs.Card.{word}
 use Rattle.layout.specs.Wrong.{NoneBelow}
 use Rattle.layout.specs.declared.fault.CardFault.TheVariants.{BadCount}
 use Rattle.layout.specs.Wrong.{CardWrong}

@@ -1,4 +1,4 @@
-use Rattle.std.proofs.Common.{◌≡◌, ℕ, suc, ◌+◌, ◌-◌, ◌≤◌, List, Some, sym, ap, ◌∙◌, arith}
+use Rattle.std.proofs.Common.{◌≡◌, suc, ◌+◌, ◌-◌, ◌≤◌, Some, sym, ap, ◌∙◌, arith}
 use Rattle.model.specs.Card.{chain, value_in}
 use Rattle.model.proofs.Chains.{walk_end, walk_here, walk_on}
 use Rattle.layout.proofs.words.walk.Goals as goal

@@ -1,4 +1,4 @@
-use Rattle.std.proofs.Common.{◌≡◌, ap, ◌∙◌}
+use Rattle.std.proofs.Common.{ap, ◌∙◌}
 use Rattle.model.specs.LeaveOut.{leave_out}
 use Rattle.model.proofs.LeavingOut.{leave_out_nothing}
 use Rattle.leave_out.proofs.LeaveOut.leaves_nothing_out.Goals as goal

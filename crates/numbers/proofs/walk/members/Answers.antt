@@ -1,4 +1,4 @@
-use Rattle.std.proofs.Common.{sym, ◌∙◌, arith}
+use Rattle.std.proofs.Common.{sym, arith}
 use Rattle.numbers.proofs.Walking.{count_up_in, count_up_out, count_end}
 use Rattle.numbers.proofs.walk.members.Goals as goal
 use Rattle.numbers.proofs.walk.members.Goals.{then-contains, else-contains}

@@ -1,7 +1,4 @@
 use Rattle.std.proofs.Common.{◌≡◌, ℕ, ◌<◌, None}
-use Rattle.model.specs.Tasks.{IsGoal}
-use Rattle.model.specs.Frames.{onto, values_by}
-use Rattle.frame.specs.Held.{size_in}
 use Rattle.shelves.specs.Shelves.{bit_of}
 use Rattle.records.specs.Records.{shelves_of}
 use Rattle.checks.specs.Wrong.{Leaves}

@@ -1,4 +1,4 @@
-use Rattle.std.proofs.Common.{not, Decides, sym, ap, ◌∙◌, subst}
+use Rattle.std.proofs.Common.{not, Decides, sym, subst}
 use Rattle.shelves.specs.Shelves.{bit_of}
 use Rattle.records.specs.Records.{shelves_of}
 use Rattle.checks.specs.Wrong.{Leaves}

@@ -1,4 +1,4 @@
-use Rattle.std.proofs.Common.{◌≡◌, ℕ, ◌<◌, ◌≤◌, get_or, replicate, sym, refl, ap, subst, arith, lit<, lit≤}
+use Rattle.std.proofs.Common.{◌≡◌, ℕ, get_or, replicate, refl, subst, arith, lit<, lit≤}
 use Rattle.std.proofs.lemmas.List.{get_or-replicate}
 use Rattle.model.specs.Frames.{width_by}
 use Rattle.frame.specs.Held.{size_in, Sized, Strided}

@@ -1,4 +1,4 @@
-use Rattle.std.proofs.Common.{cond, None, sym, refl, ap, ◌∙◌, arith, length-set}
+use Rattle.std.proofs.Common.{cond, None, ap, ◌∙◌, arith, length-set}
 use Rattle.model.specs.Tasks.{put, after, position}
 use Rattle.model.specs.LeaveOut.{has}
 use Rattle.model.specs.Frames.{onto, values_by}

@@ -5,8 +5,8 @@ use Rattle.model.specs.Frames.{choose}
 use Rattle.numbers.specs.Numbers.{count, frames, before}
 use Rattle.numbers.proofs.Windows.{count_le, among_length, choose_over}
 use Rattle.numbers.proofs.Walking.{Goes, count_up_in, count_up_out, pow_up, bit, goes_first, goes_past, goes_with, goes_without, goes_end}
-use Rattle.numbers.proofs.walk.set_at.Goals as goal
-use Rattle.numbers.proofs.walk.set_at.Goals.{then-rest-with, else-rest-with}
+use Rattle.numbers.proofs.number.set_at.Goals as goal
+use Rattle.numbers.proofs.number.set_at.Goals.{then-rest-with, else-rest-with}
 
 some_wanted : (left k r : ℕ) → r < before left k → 1 ≤ k
 some_wanted left zero r h = absurd (omega arith)

@@ -1,22 +1,13 @@
 use Rattle.std.proofs.Common.{◌≡◌, ℕ, suc, ◌+◌, ◌-◌, ◌%◌, ◌^◌, true, false, List, sym, ap, ◌∙◌, subst, subst₂, arith}
 use Rattle.model.specs.LeaveOut.{has}
 use Rattle.numbers.specs.Numbers.{count, among, frames, before}
-use Rattle.numbers.proofs.Windows.{Window, window_whole, count_le, among_length, choose_small}
+use Rattle.numbers.proofs.Windows.{Window, count_le, among_length, choose_small}
 use Rattle.numbers.proofs.Walking.{count_up_in, count_up_out, mask_with, mask_without, mask_past, window_end}
-use Rattle.numbers.proofs.Listing.{listed}
-use Rattle.numbers.proofs.walk.place_of.Goals as goal
-use Rattle.numbers.proofs.walk.place_of.Goals.{then-contains-2, else-contains-2}
+use Rattle.numbers.proofs.number.number_of.Goals as goal
+use Rattle.numbers.proofs.number.number_of.Goals.{then-contains-2, else-contains-2}
 
 window_at : (all : List ℕ) (cs v low : ℕ) {k k' from from' : ℕ} → k ≡ k' → from ≡ from' → Window all (among cs (32 - (v + 1)) (v + 1) k) from low → Window all (among cs (32 - (v + 1)) (v + 1) k') from' low
 window_at all cs v low e d w = subst₂ (λ k from. Window all (among cs (32 - (v + 1)) (v + 1) k) from low) e d w
-
-pub loop-v-init : goal.loop-v-init
-loop-v-init c =
-    let cs = c.args.candidates in
-    let f = c.args.mask in
-    let all = frames cs (count f 32 0) in
-    let none : 0 ≡ f % 1 = omega arith in
-    (c.members-left.ensures, c.members-wanted.ensures, subst₂ (λ xs low. Window all xs 0 low) (ap (among cs 32 0) (sym c.members-wanted.ensures)) none (window_whole all), listed cs (count f 32 0))
 
 pub loop-v-preserved-then-not-contains : goal.loop-v-preserved-then-not-contains
 loop-v-preserved-then-not-contains c =
@@ -28,7 +19,6 @@ loop-v-preserved-then-not-contains c =
       c.loop-v.invariant.0 ∙ count_up_out v c.loop-v-test.true cs out,
       c.loop-v.invariant.1 ∙ count_up_out v c.loop-v-test.true f none,
       mask_past v c.loop-v-test.true (frames cs (count f 32 0)) cs c.loop-v.number f c.loop-v.wanted out none c.loop-v.invariant.2,
-      c.loop-v.invariant.3,
     )
 
 pub overflow_sub-left : goal.overflow_sub-left
@@ -70,17 +60,14 @@ loop-v-preserved c =
           let here = subst (λ k. Window all (among cs (32 - v) v k) c.loop-v.number (f % 2 ^ v)) e c.loop-v.invariant.2 in
           let next = mask_with v c.loop-v-test.true all cs c.loop-v.number f more is some here in
           let wanted : c.if-contains-2.wanted ≡ more = omega (arith, w.wanted-is, e) in
-          (fewer, wanted, window_at all cs v (f % 2 ^ (v + 1)) (sym wanted) (sym w.number-is) next, c.loop-v.invariant.3)
+          (fewer, wanted, window_at all cs v (f % 2 ^ (v + 1)) (sym wanted) (sym w.number-is) next)
       | else-contains-2 w ↦
           let none : has f v ≡ false = sym w.if-contains-2.ensures in
           let next = mask_without v c.loop-v-test.true all cs c.loop-v.number f c.loop-v.wanted is none c.loop-v.invariant.2 in
           let over : w.sets_before-number.result ≡ before (count cs (32 - (v + 1)) (v + 1)) c.loop-v.wanted = w.sets_before-number.ensures ∙ ap (λ a. before a c.loop-v.wanted) fewer in
           let number : c.if-contains-2.number ≡ c.loop-v.number + before (count cs (32 - (v + 1)) (v + 1)) c.loop-v.wanted = w.number-is ∙ ap (λ x. c.loop-v.number + x) over in
-          (fewer, w.wanted-is ∙ c.loop-v.invariant.1 ∙ count_up_out v c.loop-v-test.true f none, window_at all cs v (f % 2 ^ (v + 1)) (sym w.wanted-is) (sym number) next, c.loop-v.invariant.3)
+          (fewer, w.wanted-is ∙ c.loop-v.invariant.1 ∙ count_up_out v c.loop-v-test.true f none, window_at all cs v (f % 2 ^ (v + 1)) (sym w.wanted-is) (sym number) next)
     ]
 
 pub returns : goal.returns
-returns c = record {
-  number = window_end c.loop-v.v c.loop-v-test.false (frames c.args.candidates (count c.args.mask 32 0)) c.args.candidates c.args.mask c.loop-v.number c.loop-v.wanted c.ranges.mask.fits c.loop-v.invariant.1 c.loop-v.invariant.2;
-  order = c.loop-v.invariant.3;
-}
+returns c = window_end c.loop-v.v c.loop-v-test.false (frames c.args.candidates (count c.args.mask 32 0)) c.args.candidates c.args.mask c.loop-v.number c.loop-v.wanted c.ranges.mask.fits c.loop-v.invariant.1 c.loop-v.invariant.2

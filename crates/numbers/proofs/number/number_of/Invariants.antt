@@ -1,11 +1,10 @@
 use Rattle.std.proofs.Common.{◌≡◌, ◌-◌, ◌%◌, ◌^◌}
-use Rattle.numbers.specs.Numbers.{count, among, frames, Listed}
+use Rattle.numbers.specs.Numbers.{count, among, frames}
 use Rattle.numbers.proofs.Windows.{Window}
-use Rattle.numbers.proofs.walk.place_of.Given as goal
+use Rattle.numbers.proofs.number.number_of.Given as goal
 
 abbrev pub invariant-loop-v : goal.invariant-loop-v
 invariant-loop-v l =
     (l.left ≡ count l.candidates (32 - l.v) l.v)
     × (l.wanted ≡ count l.mask (32 - l.v) l.v)
     × Window (frames l.candidates (count l.mask 32 0)) (among l.candidates (32 - l.v) l.v l.wanted) l.number (l.mask % 2 ^ l.v)
-    × Listed l.candidates (count l.mask 32 0)

@@ -1,7 +1,7 @@
 use Rattle.std.proofs.Common.{◌≡◌, ◌-◌, ◌^◌, ◌<◌, ◌≤◌}
 use Rattle.numbers.specs.Numbers.{count, frames}
 use Rattle.numbers.proofs.Walking.{Goes}
-use Rattle.numbers.proofs.walk.set_at.Given as goal
+use Rattle.numbers.proofs.number.set_at.Given as goal
 
 abbrev pub invariant-loop-v : goal.invariant-loop-v
 invariant-loop-v l =
