@@ -4,7 +4,7 @@
 --   records 1 to r, three words each: variable, value, next
 -- A head and a next are numbers of records, and 0 ends a chain. Chains may share records, and records may be unused.
 use Rattle.std.specs.Prelude.{◌≡◌, ℕ, zero, suc, ◌+◌, ◌-◌, ◌*◌, ◌<◌, ◌≤◌, cond, List, [], ◌∷◌, length, Some, None, Option, ◌==◌, nat_lt, slice_index}
-use Rattle.std.specs.List.{AllByRecursion as All}
+use Rattle.std.specs.List.{AllByRecursion}
 use Rattle.model.specs.Tasks.{Task}
 
 abbrev pub word : List ℕ → ℕ → ℕ
@@ -140,7 +140,7 @@ pub record IsCard (ws : List ℕ) : Type 0 where
 -- along the records each variable is below all later ones, so that no record comes twice
 abbrev pub Rising : List ℕ → List ℕ → Type 0
 Rising ws [] = Unit {0}
-Rising ws (k ∷ ks) = All (λ j. variable_of ws k < variable_of ws j) ks × Rising ws ks
+Rising ws (k ∷ ks) = AllByRecursion (λ j. variable_of ws k < variable_of ws j) ks × Rising ws ks
 
 -- the first n records of the chain at k are all of it, and their variables rise
 abbrev pub WholeChain : List ℕ → ℕ → Type 0

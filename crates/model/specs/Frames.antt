@@ -1,6 +1,6 @@
 -- Sets of variables, the projection of a task onto one, the code of a position in one, and the order in which sets are numbered.
 use Rattle.std.specs.Prelude.{◌≡◌, ℕ, zero, suc, ◌+◌, ◌*◌, ◌/◌, ◌%◌, ◌^◌, ◌<◌, ◌≤◌, Bool, cond, not, ◌&&◌, ◌⊎◌, ◌↔◌, List, [], ◌∷◌, ◌++◌, map, ◌==◌, bit_and, count_ones}
-use Rattle.std.specs.List.{AllByRecursion as All}
+use Rattle.std.specs.List.{AllByRecursion}
 use Rattle.model.specs.Tasks.{Task, Position, Legal}
 use Rattle.model.specs.Orders.{Earlier}
 use Rattle.model.specs.LeaveOut.{has, leave_out}
@@ -73,7 +73,7 @@ members (suc n) f = cond (f % 2 == 1) (0 ∷ map suc (members n (f / 2))) (map s
 -- each set's ascending list is earlier than those after it
 abbrev pub InOrder : ℕ → List ℕ → Type 0
 InOrder n [] = Unit {0}
-InOrder n (f ∷ fs) = All (λ g. Earlier (members n f) (members n g)) fs × InOrder n fs
+InOrder n (f ∷ fs) = AllByRecursion (λ g. Earlier (members n f) (members n g)) fs × InOrder n fs
 
 abbrev pub In : ℕ → List ℕ → Type 0
 In x [] = ⊥

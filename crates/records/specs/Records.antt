@@ -1,6 +1,6 @@
 -- What the records and the pool hold.
 use Rattle.std.specs.Prelude.{◌≡◌, ℕ, Bool, false, ◌&&◌, ◌||◌, List, [], ◌∷◌, map, take, drop}
-use Rattle.std.specs.List.{AllByRecursion as All}
+use Rattle.std.specs.List.{AllByRecursion}
 use Rattle.model.specs.Tasks.{Position}
 use Rattle.model.specs.Frames.{strictly_inside, code_by}
 use Rattle.frame.specs.Held.{size_in}
@@ -33,4 +33,4 @@ covered_in pool (r ∷ rs) f p = (strictly_inside r.frame.mask f && on pool r p)
 
 -- the frames are frames of a task with these variables and sizes
 abbrev pub Framed : ℕ → (ℕ → ℕ) → List Shelf → Type 0
-Framed n size rs = All (λ r. (r.frame.n ≡ n) × (size_in r.frame.sizes ≡ size)) rs
+Framed n size rs = AllByRecursion (λ r. (r.frame.n ≡ n) × (size_in r.frame.sizes ≡ size)) rs

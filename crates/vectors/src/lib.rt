@@ -6,7 +6,7 @@ mod cards;
 #[cfg(test)]
 mod frames;
 #[cfg(test)]
-mod numbers;
+mod numbering;
 #[cfg(test)]
 mod piles;
 #[cfg(test)]
