@@ -1,7 +1,7 @@
 // How many sets of so many members there are.
 #![tactic(auto)]
 
-ghost use Rattle.std.specs.Prelude.{◌≡◌, ◌≤◌, true, ◌&&◌, ltb, length, if◌then◌else◌, nat_lt};
+ghost use Rattle.std.specs.Prelude.{◌≡◌, ◌≤◌, true, ◌&&◌, length, if◌then◌else◌, nat_lt};
 ghost use Rattle.model.specs.Frames.{choose};
 ghost use Rattle.counts.specs.Pascal.{pascal};
 
@@ -82,7 +82,7 @@ fn entry(a: usize, b: usize) -> u32
 
 // How many sets of b of a things there are, for at most 32 things, and else 0.
 pub fn subsets(a: usize, b: usize) -> u32
-    ensures { result ≡ (if ltb a 33 && nat_lt b 33 then length (choose a b) else 0) }
+    ensures { result ≡ (if nat_lt a 33 && nat_lt b 33 then length (choose a b) else 0) }
 {
     if a < 33 && b < 33 { entry(a, b) } else { 0 }
 }

@@ -1,7 +1,7 @@
 -- A card's chains are whole, and how a walk along one goes on.
 use Rattle.std.proofs.Common.{◌≡◌, ℕ, zero, suc, ◌+◌, ◌<◌, ◌≤◌, eqb, List, [], ◌∷◌, length, Some, None, refl, ap, ◌∙◌, ⊎_elim, arith}
 use Rattle.std.proofs.lemmas.Bool.{cases_lt, cond_both, cond-true, cond-false, eq-eqb, ne_eqb, eqb-true, eqb-false}
-use Rattle.std.specs.List.{AllByRecursion as All}
+use Rattle.std.specs.List.{AllByRecursion}
 use Rattle.model.specs.Card.{variables, records, variable_of, value_of, next_of, Chain, chain, value_in, Nexts, Records, Ascends, Rising, WholeChain}
 
 -- ---- a walk that looks for the variable v, with i records to go at most
@@ -39,9 +39,9 @@ module _ (ws : List ℕ) (nexts : Nexts ws) (recs : Records ws) (ascends : Ascen
       (low, refl, ends i (next_of ws k) (nexts k (low, h)) (λ l. omega (arith, far low, ascends k (low, h) l))))
 
   -- the variables after k are above k's
-  above : (i k b : ℕ) → k ≤ records ws → (1 ≤ k → b < variable_of ws k) → All (λ j. b < variable_of ws j) (chain i ws k)
+  above : (i k b : ℕ) → k ≤ records ws → (1 ≤ k → b < variable_of ws k) → AllByRecursion (λ j. b < variable_of ws j) (chain i ws k)
   above zero k b h far = tt
-  above (suc i) k b h far = cond_both (eqb k 0) [] (k ∷ chain i ws (next_of ws k)) (λ ks. All (λ j. b < variable_of ws j) ks)
+  above (suc i) k b h far = cond_both (eqb k 0) [] (k ∷ chain i ws (next_of ws k)) (λ ks. AllByRecursion (λ j. b < variable_of ws j) ks)
       (λ z. tt)
       (λ z.
       let low : 1 ≤ k = omega (arith, eqb-false k 0 z) in

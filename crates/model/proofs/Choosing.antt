@@ -3,7 +3,7 @@ use Rattle.std.proofs.Common.{◌≡◌, ℕ, zero, suc, ◌+◌, ◌-◌, ◌*�
 use native.Mathlib.Nat.{div-div-eq-div-mul, pow-succ'}
 use lib.Count.{ones, ones_step, ones-le}
 use lib.ListN.{length-map}
-use Rattle.std.specs.List.{AllByRecursion as All}
+use Rattle.std.specs.List.{AllByRecursion}
 use Rattle.std.proofs.lemmas.Bool.{cases_lt, cond-true, eqb-true, eq-eqb}
 use Rattle.model.specs.Orders.{Earlier}
 use Rattle.model.specs.LeaveOut.{has}
@@ -164,7 +164,7 @@ odd_first n g h small some =
     subst₂ Earlier (sym (odd_members n g)) (sym (even_members n h)) (zero_first (map suc (members n g)) (members n h) (omega (arith, members_length n h small)))
 
 module _ (m n : ℕ) (d : ℕ → ℕ) (keep : (f g : ℕ) → Earlier (members n f) (members n g) → Earlier (members m (d f)) (members m (d g))) where
-  all_map : (f : ℕ) (fs : List ℕ) → All (λ g. Earlier (members n f) (members n g)) fs → All (λ g. Earlier (members m (d f)) (members m g)) (map d fs)
+  all_map : (f : ℕ) (fs : List ℕ) → AllByRecursion (λ g. Earlier (members n f) (members n g)) fs → AllByRecursion (λ g. Earlier (members m (d f)) (members m g)) (map d fs)
   all_map f [] a = tt
   all_map f (g ∷ fs) a = (keep f g a.0, all_map f fs a.1)
 
@@ -172,7 +172,7 @@ module _ (m n : ℕ) (d : ℕ → ℕ) (keep : (f g : ℕ) → Earlier (members 
   order_map [] o = tt
   order_map (f ∷ fs) o = (all_map f fs o.0, order_map fs o.1)
 
-all_append : (P : ℕ → Type 0) (xs ys : List ℕ) → All P xs → ((y : ℕ) → In y ys → P y) → All P (xs ++ ys)
+all_append : (P : ℕ → Type 0) (xs ys : List ℕ) → AllByRecursion P xs → ((y : ℕ) → In y ys → P y) → AllByRecursion P (xs ++ ys)
 all_append P [] [] a h = tt
 all_append P [] (y ∷ ys) a h = (h y (inl refl), all_append P [] ys tt (λ z i. h z (inr i)))
 all_append P (x ∷ xs) ys a h = (a.0, all_append P xs ys a.1 h)

@@ -27,7 +27,7 @@ size_at ws v = 4 + v
 abbrev pub start_at : List ℕ → ℕ → ℕ
 start_at ws v = 4 + variables ws + v
 
--- the goal's head; the heads of operator o follow at needed_at and madeAt
+-- the goal's head; the heads of operator o follow at needed_at and made_at
 abbrev pub goal_at : List ℕ → ℕ
 goal_at ws = 4 + 2 * variables ws
 

@@ -1,6 +1,6 @@
 -- Sets of codes below a bound: whether they have a member, and how many.
 use Rattle.std.proofs.Common.{◌≡◌, ℕ, zero, suc, ◌+◌, ◌<◌, ◌≤◌, Bool, true, false, cond, ◌||◌, T, eqb, List, [], ◌∷◌, length, sym, refl, ap, ◌∙◌, subst, ap₂, ⊎_elim, arith}
-use Rattle.std.specs.List.{AllByRecursion as All}
+use Rattle.std.specs.List.{AllByRecursion}
 use Rattle.std.proofs.lemmas.Bool.{cases_eq, cases_order, ne_eqb, eq-eqb}
 use Rattle.model.proofs.Truths.{either, either_first, either_second}
 use Rattle.shelves.specs.Filing.{some_below, count}
@@ -62,19 +62,19 @@ count_more (suc n) x set l h = ⊎_elim
 -- no two members are equal
 abbrev pub Different : List ℕ → Type 0
 Different [] = Unit {0}
-Different (x ∷ xs) = All (λ y. x ≡ y → ⊥) xs × Different xs
+Different (x ∷ xs) = AllByRecursion (λ y. x ≡ y → ⊥) xs × Different xs
 
 abbrev elem : ℕ → List ℕ → Bool
 elem c [] = false
 elem c (x ∷ xs) = eqb c x || elem c xs
 
-not_in : (x : ℕ) (xs : List ℕ) → All (λ y. x ≡ y → ⊥) xs → elem x xs ≡ false
+not_in : (x : ℕ) (xs : List ℕ) → AllByRecursion (λ y. x ≡ y → ⊥) xs → elem x xs ≡ false
 not_in x [] h = refl
 not_in x (y ∷ xs) h = ap (λ b. b || elem x xs) (ne_eqb x y h.0) ∙ not_in x xs h.1
 
-count_list : (n : ℕ) (xs : List ℕ) → All (λ x. x < n) xs → Different xs → count n (λ c. elem c xs) ≡ length xs
+count_list : (n : ℕ) (xs : List ℕ) → AllByRecursion (λ x. x < n) xs → Different xs → count n (λ c. elem c xs) ≡ length xs
 count_list n [] h d = count_empty n
 count_list n (x ∷ xs) h d = count_more n x (λ c. elem c xs) h.0 (not_in x xs d.0) ∙ ap suc (count_list n xs h.1 d.1)
 
-pub different_few : (n : ℕ) (xs : List ℕ) → All (λ x. x < n) xs → Different xs → length xs ≤ n
+pub different_few : (n : ℕ) (xs : List ℕ) → AllByRecursion (λ x. x < n) xs → Different xs → length xs ≤ n
 different_few n xs h d = omega (arith, count_list n xs h d, count_most n (λ c. elem c xs))
