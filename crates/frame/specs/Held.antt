@@ -14,6 +14,10 @@ Sized sizes = (v : ℕ) → v < 32 → (1 ≤ slice_index sizes v) × (slice_ind
 abbrev pub Strided : List ℕ → ℕ → ℕ → List ℕ → Type 0
 Strided sizes mask n strides = (v : ℕ) → v < n → slice_index strides v ≡ width_by (size_in sizes) mask v
 
+-- the strides of the variables from n on are 1: nothing codes by them, and a frame is written whole
+abbrev pub OnesFrom : ℕ → List ℕ → Type 0
+OnesFrom n strides = (v : ℕ) → n ≤ v → v < 32 → slice_index strides v ≡ 1
+
 -- the product is within the limit up to each variable below n
 abbrev pub Small : List ℕ → ℕ → ℕ → Type 0
 Small sizes mask n = (v : ℕ) → v < n → width_by (size_in sizes) mask (suc v) ≤ 16384

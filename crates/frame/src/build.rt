@@ -1,5 +1,5 @@
 // Making a frame of a task.
-ghost use Rattle.std.specs.Prelude.{◌≡◌, IfOk, MatchResult};
+ghost use Rattle.std.specs.Prelude.{◌≡◌, replicate, IfOk, MatchResult};
 ghost use Rattle.frame.specs.Held.{size_in};
 ghost use Rattle.frame.specs.Wrong.{Frames};
 
@@ -12,7 +12,8 @@ use task::source::TaskSource;
 impl Frame {
     // The frame of one variable with one value, to be lent and written.
     pub fn least() -> Self
-        ensures { (result.n ≡ 1) × (result.mask ≡ 1) × (result.size ≡ 1) }
+        ensures least { (result.n ≡ 1) × (result.mask ≡ 1) × (result.size ≡ 1) }
+        ensures ones { (result.sizes ≡ replicate 32 1) × (result.strides ≡ replicate 32 1) }
     {
         Frame {
             n: 1,

@@ -76,10 +76,7 @@ impl Frame {
     pub fn code_inside(&self, inner: &Frame, code: usize) -> usize
         ensures { result ≡ code_by (size_in inner.now.sizes) inner.now.mask (values_by (size_in self.now.sizes) self.now.mask code) inner.now.n }
     {
-        let mut values = [0; 32];
-        for v in 0..inner.n {
-            values[v] = self.value(code, v);
-        }
+        let values = self.values(code);
         inner.code(&values)
     }
 }

@@ -1,7 +1,7 @@
 // A frame, written whole into one that the caller lends.
 ghost use Rattle.std.specs.Prelude.{◌≡◌, ℕ, ◌^◌, ◌<◌, ◌≤◌};
 ghost use Rattle.model.specs.Frames.{width_by};
-ghost use Rattle.frame.specs.Held.{size_in, Sized, Strided};
+ghost use Rattle.frame.specs.Held.{size_in, Sized, Strided, OnesFrom};
 
 // A set of variables with all that coding needs: the sizes of the task's variables, for each variable the product of the sizes of the
 // frame's lower variables (its stride), and the product of all of them.
@@ -17,6 +17,7 @@ pub struct Frame {
     ghost legal: { mask < 2 ^ n },
     ghost sized: { Sized sizes },
     ghost strided: { Strided sizes mask n strides },
+    ghost rest: { OnesFrom n strides },
     ghost whole: { size ≡ width_by (size_in sizes) mask n },
     ghost small: { size ≤ 16384 },
 }

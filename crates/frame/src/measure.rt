@@ -1,9 +1,9 @@
 // The sizes of a task's variables, and the strides of a mask.
-ghost use Rattle.std.specs.Prelude.{◌≡◌, ◌≤◌};
+ghost use Rattle.std.specs.Prelude.{◌≡◌, ℕ, ◌≤◌, slice_index};
 ghost use Rattle.frame.specs.Held.{size_in, Sized, Measured};
 
 use task::mask::contains;
-use task::moves::MAX_VARIABLES;
+use task::moves::{MAX_VARIABLES, size_or_one};
 use task::source::TaskSource;
 
 // The most codes that a frame has.
@@ -15,7 +15,7 @@ pub fn sizes_of<S: TaskSource>(source: &S) -> [u16; MAX_VARIABLES]
 {
     let mut sizes = [1; MAX_VARIABLES];
     for v in 0..MAX_VARIABLES {
-        sizes[v] = source.size(v).unwrap_or(1);
+        sizes[v] = size_or_one(source, v);
     }
     sizes
 }
@@ -29,7 +29,8 @@ pub(crate) fn measure(
     strides: &mut [u32; 32],
 ) -> Result<u32, usize>
     requires { (Sized sizes.now) × (n ≤ 32) }
-    ensures { Measured sizes.now mask n strides.new result }
+    ensures measured { Measured sizes.now mask n strides.new result }
+    ensures rest { (v : ℕ) → n ≤ v → slice_index strides.new v ≡ slice_index strides.old v }
 {
     let mut size = 1;
     for v in 0..n {

@@ -7,7 +7,7 @@ ghost use Rattle.frame.specs.Held.{size_in};
 ghost use Rattle.frame.specs.Steps.{LeadsTo};
 
 use crate::frame::Frame;
-use task::mask::contains;
+use task::mask::kept;
 use task::source::TaskSource;
 
 impl Frame {
@@ -15,7 +15,7 @@ impl Frame {
     pub(crate) fn kept(&self, v: usize, value: Option<u16>) -> Option<u16>
         ensures { result ≡ (if has self.now.mask v then value else None) }
     {
-        if contains(self.mask, v) { value } else { None }
+        kept(self.mask, v, value)
     }
 
     // Whether the operator o applies at the code c.

@@ -2,12 +2,11 @@
 #![tactic(auto)]
 
 ghost use Rattle.std.specs.Prelude.{◌≡◌, ◌≤◌, MatchResult, refl};
-ghost use Rattle.std.proofs.Common.{subst};
 ghost use Rattle.model.specs.Reductions.{Reduces};
 ghost use Rattle.model.specs.Join.{join, joins};
 ghost use Rattle.model.proofs.Joining.{join_lawful, join_reduces};
 ghost use Rattle.reduction.specs.Settings.{JoinWrong, Tests};
-ghost use Rattle.model.proofs.Reducing.{compose};
+ghost use Rattle.reduction.proofs.Layers.{over_pile};
 
 use reduction::check::check_join;
 use reduction::fault::ReductionFault;
@@ -128,12 +127,7 @@ impl<R: Reduction> Reduction for Join<R> {
 
     ghost grounded = { λ s. R.Reduction.grounded s.source };
 
-    ghost reduces = { λ s.
-        let low = R.Reduction.lowest s.source in
-        let t = R.TaskSource.task s.source in
-        let sends = R.Reduction.sends s.source in
-        let below = subst (λ u. Reduces low u sends) (R.Reduction.tied s.source) (R.Reduction.reduces s.source) in
-        compose low t (join s.variable s.low s.high t) sends (joins s.variable s.low s.high) below (join_reduces s.variable s.low s.high t) };
+    ghost reduces = { λ s. over_pile (R.Reduction.tied s.source) (R.Reduction.reduces s.source) (join_reduces s.variable s.low s.high (R.TaskSource.task s.source)) };
 
     fn image(&self, v: usize, x: u16) -> Option<u16> {
         let y = self.source.image(v, x)?;

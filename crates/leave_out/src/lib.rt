@@ -2,17 +2,16 @@
 #![tactic(auto)]
 
 ghost use Rattle.std.specs.Prelude.{◌≡◌, if◌then◌else◌, None, MatchResult, refl};
-ghost use Rattle.std.proofs.Common.{subst};
 ghost use Rattle.model.specs.Reductions.{Reduces};
 ghost use Rattle.model.specs.LeaveOut.{has, leave_out, kept};
 ghost use Rattle.model.proofs.LeavingOut.{leave_out_lawful, leave_out_reduces};
 ghost use Rattle.reduction.specs.Settings.{MaskWrong, Tests};
-ghost use Rattle.model.proofs.Reducing.{compose};
+ghost use Rattle.reduction.proofs.Layers.{over_pile};
 
 use reduction::check::check_mask;
 use reduction::fault::ReductionFault;
 use reduction::interface::Reduction;
-use task::mask::contains;
+use task::mask::{contains, kept};
 use task::source::TaskSource;
 
 // The source with only the variables of the mask: every other one has size 1, value 0, and no needed, made or goal value.
@@ -27,7 +26,7 @@ impl<S> LeaveOut<S> {
     fn kept(&self, v: usize, value: Option<u16>) -> Option<u16>
         ensures { result ≡ (if has self.now.mask v then value else None) }
     {
-        if contains(self.mask, v) { value } else { None }
+        kept(self.mask, v, value)
     }
 }
 
@@ -115,12 +114,7 @@ impl<R: Reduction> Reduction for LeaveOut<R> {
 
     ghost grounded = { λ s. R.Reduction.grounded s.source };
 
-    ghost reduces = { λ s.
-        let low = R.Reduction.lowest s.source in
-        let t = R.TaskSource.task s.source in
-        let sends = R.Reduction.sends s.source in
-        let below = subst (λ u. Reduces low u sends) (R.Reduction.tied s.source) (R.Reduction.reduces s.source) in
-        compose low t (leave_out s.mask t) sends (kept s.mask) below (leave_out_reduces s.mask t) };
+    ghost reduces = { λ s. over_pile (R.Reduction.tied s.source) (R.Reduction.reduces s.source) (leave_out_reduces s.mask (R.TaskSource.task s.source)) };
 
     fn image(&self, v: usize, x: u16) -> Option<u16> {
         let y = self.source.image(v, x)?;

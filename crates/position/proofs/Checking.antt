@@ -1,4 +1,4 @@
--- The sizes that a source tells, and when nothing is wrong with a position.
+-- When nothing is wrong with a position.
 use Rattle.std.proofs.Common.{◌≡◌, ℕ, ◌<◌, ◌≤◌, ltb, List, length, get_or, Some, None, unwrap_or, sym, ap, ◌∙◌, ⊎_elim, arith}
 use Rattle.std.proofs.lemmas.List.{get_or_past}
 use Rattle.std.proofs.lemmas.Bool.{cases_lt, cond-true, cond-false, lt-ltb, le-ltb}
@@ -8,12 +8,6 @@ use Rattle.position.specs.declared.fault.PositionFault.TheVariants.{WrongCount, 
 use Rattle.position.specs.Wrong.{Stray, PositionWrong}
 
 module _ (t : Task) (law : Lawful t) where
-  pub size_told : (v : ℕ) → unwrap_or (below v t.n (t.size v)) 1 ≡ t.size v
-  size_told v = ⊎_elim
-      (λ h. ap (λ w. unwrap_or w 1) (cond-true (ltb v t.n) (Some (t.size v)) None (lt-ltb v t.n h)))
-      (λ h. ap (λ w. unwrap_or w 1) (cond-false (ltb v t.n) (Some (t.size v)) None (le-ltb v t.n h)) ∙ sym (law.outside v h))
-      (cases_lt v t.n)
-
   -- one value for each variable, and none of them stray
   pub position_right : (xs : List ℕ) → length xs ≡ t.n → ((i : ℕ) → Stray t xs i → ⊥) → ((d : PositionFault) → PositionWrong t xs d → ⊥) × (length xs ≡ t.n) × Legal t (position xs)
   position_right xs e none = (go, e, legal)

@@ -1,9 +1,9 @@
 // Whether a list of values is a position.
-ghost use Rattle.std.specs.Prelude.{◌≡◌};
 ghost use Rattle.model.specs.Orders.{Least};
 ghost use Rattle.position.specs.Wrong.{Stray, Checked};
 
 use crate::fault::PositionFault;
+use task::moves::size_or_one;
 use task::source::TaskSource;
 
 // Accepts one value for each variable of the task, each below its variable's size.
@@ -25,15 +25,9 @@ fn stray_value<S: TaskSource>(source: &S, values: &[u16]) -> Option<usize>
     ensures { Least (Stray (S.TaskSource.task source.now) values.now) result }
 {
     for i in 0..values.len() {
-        if values[i] >= size_of(source, i) {
+        if values[i] >= size_or_one(source, i) {
             return Some(i);
         }
     }
     None
-}
-
-fn size_of<S: TaskSource>(source: &S, v: usize) -> u16
-    ensures { result ≡ (S.TaskSource.task source.now).size v }
-{
-    source.size(v).unwrap_or(1)
 }

@@ -1,4 +1,5 @@
 use Rattle.std.proofs.Common.{◌≡◌, ℕ, suc, ◌^◌, ◌<◌, ◌≤◌, List, get_or, sym, refl, ap, ◌∙◌, subst, arith}
+use Rattle.std.proofs.lemmas.List.{get_or-replicate}
 use Rattle.model.specs.Tasks.{Task, Lawful}
 use Rattle.model.specs.Frames.{width_by, width, frame_size}
 use Rattle.frame.specs.Held.{size_in, Sized}
@@ -25,7 +26,7 @@ invariant_of-result g c =
     let s = c.args.source.now in
     let t = g.S.TaskSource.task s in
     let law = g.S.TaskSource.lawful s in
-    let m = c.in-Ok.ensures in
+    let m = c.in-Ok.ensures.measured in
     let legal : c.args.mask < 2 ^ t.n = within t law c.args.mask (omega (arith, c.if-mask-eq0.false)) (λ v w. c.in_default.ensures v (omega (arith, w.0, c.variables-n.ensures), w.1)) in
     record {
       few = omega (arith, c.variables-n.ensures, law.variables.1);
@@ -33,6 +34,7 @@ invariant_of-result g c =
       legal = subst (λ n. c.args.mask < 2 ^ n) (sym c.variables-n.ensures) legal;
       sized = sized t law c.sizes_of-sizes.result c.sizes_of-sizes.ensures;
       strided = m.0;
+      rest = λ v l h. c.in-Ok.ensures.rest v l ∙ get_or-replicate 32 v 1 0 h;
       whole = m.1;
       small = m.2;
     }
@@ -41,7 +43,7 @@ pub returns-in-Ok : goal.returns-in-Ok
 returns-in-Ok g c =
     let s = c.args.source.now in
     let t = g.S.TaskSource.task s in
-    let m = c.in-Ok.ensures in
+    let m = c.in-Ok.ensures.measured in
     let e : c.in-Ok.size ≡ frame_size t c.args.mask = m.1 ∙ ap (λ f. width_by f c.args.mask c.variables-n.result) c.sizes_of-sizes.ensures ∙ ap (width t c.args.mask) c.variables-n.ensures in
     record {
       frames = frame_right t (g.S.TaskSource.lawful s) c.args.mask (omega (arith, c.if-mask-eq0.false)) (λ v w. c.in_default.ensures v (omega (arith, w.0, c.variables-n.ensures), w.1)) (subst (λ x. x ≤ 16384) e m.2);
@@ -52,7 +54,7 @@ pub returns-in-Err : goal.returns-in-Err
 returns-in-Err g c =
     let s = c.args.source.now in
     let t = g.S.TaskSource.task s in
-    let m = c.in-Err.ensures in
+    let m = c.in-Err.ensures.measured in
     let ss = c.sizes_of-sizes.result in
     let same = λ (v : ℕ). same_width t ss c.args.mask v c.sizes_of-sizes.ensures in
     record {

@@ -1,4 +1,4 @@
-use Rattle.std.proofs.Common.{◌≡◌, ◌≤◌, length}
+use Rattle.std.proofs.Common.{◌≡◌, ℕ, ◌≤◌, length, get_or}
 use Rattle.model.specs.Frames.{width_by}
 use Rattle.frame.specs.Held.{size_in, Strided, Small}
 use Rattle.frame.proofs.measure.measure.Given as goal
@@ -10,3 +10,4 @@ invariant-loop-v l =
     × (length l.strides ≡ 32)
     × Strided l.sizes l.mask l.v l.strides
     × Small l.sizes l.mask l.v
+    × ((u : ℕ) → l.v ≤ u → get_or l.strides u 0 ≡ get_or l.initial.strides u 0)

@@ -17,6 +17,7 @@ invariant_of-result c = record {
   legal = lit< tt;
   sized = sized;
   strided = strided;
+  rest = λ v l h. get_or-replicate 32 v 1 0 h;
   whole = refl;
   small = lit≤ tt;
 }
