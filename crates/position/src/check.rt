@@ -1,4 +1,5 @@
 // Whether a list of values is a position.
+ghost use Rattle.std.specs.Prelude.{◌≡◌};
 ghost use Rattle.model.specs.Orders.{Least};
 ghost use Rattle.position.specs.Wrong.{Stray, Checked};
 
@@ -25,9 +26,15 @@ fn stray_value<S: TaskSource>(source: &S, values: &[u16]) -> Option<usize>
     ensures { Least (Stray (S.TaskSource.task source.now) values.now) result }
 {
     for i in 0..values.len() {
-        if values[i] >= size_or_one(source, i) {
+        if values[i] >= size_of(source, i) {
             return Some(i);
         }
     }
     None
+}
+
+fn size_of<S: TaskSource>(source: &S, v: usize) -> u16
+    ensures { result ≡ (S.TaskSource.task source.now).size v }
+{
+    size_or_one(source, v)
 }
