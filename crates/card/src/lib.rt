@@ -1,35 +1,30 @@
 // A card as a task source.
 #![tactic(auto)]
 
-pub mod owned;
-
-ghost use Rattle.std.specs.Prelude.{◌≡◌, [], ◌∷◌, MatchResult};
-ghost use Rattle.model.specs.Card.{card, Version, Counts, Length, Sizes, Starts, Heads, Nexts, Records, Ascends};
+ghost use Rattle.std.specs.Prelude.{◌≡◌, [], ◌∷◌, IfOk, MatchResult};
+ghost use Rattle.model.specs.Card.{card, operators, needed_at, IsCard};
+ghost use Rattle.model.specs.Tasks.{below};
 ghost use Rattle.model.proofs.CardFacts.{card_lawful};
 ghost use Rattle.layout.specs.Wrong.{Reads};
 
 use layout::check::check_words;
 use layout::fault::CardFault;
 use layout::words::{chained, goal_at, operators, variables};
+use std::convert::AsSlice;
 use task::source::TaskSource;
 use task::words::word;
 
-// Words that are a card, held by someone else.
+// Words that are a card, held by someone else or by the card itself.
 #[derive(Drop)]
-pub struct Card<'a> {
-    words: &'a [u16],
-    ghost version: { Version words.now },
-    ghost counts: { Counts words.now },
-    ghost long: { Length words.now },
-    ghost sizes: { Sizes words.now },
-    ghost starts: { Starts words.now },
-    ghost heads: { Heads words.now },
-    ghost nexts: { Nexts words.now },
-    ghost records: { Records words.now },
-    ghost ascends: { Ascends words.now },
+pub struct Card<W: AsSlice<u16>> {
+    words: W,
+    ghost is_card: { IsCard (W.items words) },
 }
 
-impl<'a> Card<'a> {
+// A card that holds its own words.
+pub type OwnedCard = Card<Vec<u16>>;
+
+impl<'a> Card<&'a [u16]> {
     // The card of one variable with one value, and no operator.
     pub fn new() -> Self
         ensures { result.words.now ≡ (1 ∷ 1 ∷ 0 ∷ 0 ∷ 1 ∷ 0 ∷ 0 ∷ []) }
@@ -38,65 +33,81 @@ impl<'a> Card<'a> {
             words: &[1, 1, 0, 0, 1, 0, 0],
         }
     }
+}
+
+impl<W: AsSlice<u16> + Drop> Card<W> {
+    // The words as a card, if nothing is wrong with them.
+    pub fn of(words: W) -> Result<Self, CardFault>
+        ensures reads { Reads (W.items words) result }
+        ensures held { IfOk result (λ card. card.words ≡ words) }
+    {
+        check_words(words.as_slice())?;
+        Ok(Card { words })
+    }
 
     // Takes the words as this card, if nothing is wrong with them. Declined, it stays as it was.
-    pub fn read(&mut self, words: &'a [u16]) -> Result<(), CardFault>
-        ensures reads { Reads words.now result }
-        ensures held { MatchResult result (λ _. self.new.words.now ≡ words.now) (λ _. self.new ≡ self.old) }
+    pub fn read(&mut self, words: W) -> Result<(), CardFault>
+        ensures reads { Reads (W.items words) result }
+        ensures held { MatchResult result (λ _. self.new.words ≡ words) (λ _. self.new ≡ self.old) }
     {
-        check_words(words)?;
-        self.words = words;
+        *self = Card::of(words)?;
         Ok(())
     }
 }
 
-impl<'a> TaskSource for Card<'a> {
-    ghost task = { λ s. card s.words.now };
+impl<W: AsSlice<u16>> Card<W> {
+    // The same card, over words that are lent.
+    pub fn view(&self) -> Card<&[u16]>
+        ensures { result.words.now ≡ W.items self.now.words }
+    {
+        Card {
+            words: self.words.as_slice(),
+        }
+    }
 
-    ghost lawful = { λ s. card_lawful s.words.now s.counts s.sizes s.starts s.heads s.nexts s.records };
+    // Where the two heads of the operator o stand, that of its needed values first.
+    fn heads_at(&self, o: usize) -> Option<usize>
+        ensures { result ≡ below o (operators (W.items self.now.words)) (needed_at (W.items self.now.words) o) }
+    {
+        let words = self.words.as_slice();
+        (o < operators(words)).then(|| goal_at(words) + 1 + 2 * o)
+    }
+}
+
+impl<W: AsSlice<u16>> TaskSource for Card<W> {
+    ghost task = { λ s. card (W.items s.words) };
+
+    ghost lawful = { λ s. card_lawful (W.items s.words) s.is_card.counts s.is_card.sizes s.is_card.starts s.is_card.heads s.is_card.nexts s.is_card.records };
 
     fn variables(&self) -> usize {
-        variables(self.words)
+        variables(self.words.as_slice())
     }
 
     fn size(&self, v: usize) -> Option<u16> {
-        if v < variables(self.words) {
-            Some(word(self.words, 4 + v))
-        } else {
-            None
-        }
+        let words = self.words.as_slice();
+        (v < variables(words)).then(|| word(words, 4 + v))
     }
 
     fn operators(&self) -> usize {
-        operators(self.words)
+        operators(self.words.as_slice())
     }
 
     fn needed(&self, o: usize, v: usize) -> Option<u16> {
-        if o < operators(self.words) {
-            chained(self.words, goal_at(self.words) + 1 + 2 * o, v)
-        } else {
-            None
-        }
+        chained(self.words.as_slice(), self.heads_at(o)?, v)
     }
 
     fn made(&self, o: usize, v: usize) -> Option<u16> {
-        if o < operators(self.words) {
-            chained(self.words, goal_at(self.words) + 2 + 2 * o, v)
-        } else {
-            None
-        }
+        chained(self.words.as_slice(), self.heads_at(o)? + 1, v)
     }
 
     fn start(&self, v: usize) -> Option<u16> {
-        let n = variables(self.words);
-        if v < n {
-            Some(word(self.words, 4 + n + v))
-        } else {
-            None
-        }
+        let words = self.words.as_slice();
+        let n = variables(words);
+        (v < n).then(|| word(words, 4 + n + v))
     }
 
     fn goal(&self, v: usize) -> Option<u16> {
-        chained(self.words, goal_at(self.words), v)
+        let words = self.words.as_slice();
+        chained(words, goal_at(words), v)
     }
 }

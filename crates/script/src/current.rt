@@ -1,5 +1,5 @@
 // The source that a session's piles stand on.
-use card::owned::OwnedCard;
+use card::OwnedCard;
 use ring::Ring;
 
 #[derive(Drop)]

@@ -13,7 +13,7 @@ ghost use Rattle.script.specs.Sessions.{nothing, held, Tops, Becomes, After};
 use crate::current::Current;
 use crate::report;
 use crate::report::Query;
-use card::owned::OwnedCard;
+use card::OwnedCard;
 use command::kinds::Command;
 use command::parse::parse;
 use layout::fault::CardFault;
@@ -120,8 +120,8 @@ impl Session {
         ensures becomes { Becomes (held self.old.current self.old.layers.items) (card words.items) (held self.new.current self.new.layers.items) }
         ensures counts { IfOk result (λ c. c ≡ (variables words.items, operators words.items)) }
     {
-        let card = OwnedCard::read(words)?;
-        let counts = (card.view().variables(), card.view().operators());
+        let card = OwnedCard::of(words)?;
+        let counts = (card.variables(), card.operators());
         self.current = Current::Card(card);
         self.layers.clear();
         Ok(counts)

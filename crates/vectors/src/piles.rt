@@ -14,7 +14,7 @@ use std::test::Fail;
 use task::refusal::Fault;
 use task::source::TaskSource;
 
-fn first_card() -> Card<'static> {
+fn first_card() -> Card<&'static [u16]> {
     let mut card = Card::new();
     let _ = card.read(&WORDS);
     card
