@@ -3,7 +3,7 @@ ghost use Rattle.ring.specs.Faults.{ring_refusal};
 
 use task::refusal::{Fault, Layer, Refusal};
 
-#[derive(Clone, Copy, Debug)]
+#[derive(Clone, Copy, PartialEq, Eq, Debug)]
 pub enum RingFault {
     // a ring has 1 to 32 places, and not this many
     Places(usize),

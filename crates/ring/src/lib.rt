@@ -32,11 +32,23 @@ impl Ring {
     pub fn set(&mut self, n: usize) -> Result<(), RingFault>
         ensures { MatchResult result (λ _. self.new.n ≡ n) (λ e. (e ≡ Places n) × ((1 ≤ n) × (n ≤ 32) → ⊥) × (self.new ≡ self.old)) }
     {
-        if n < 1 || n > MAX_VARIABLES {
-            return Err(RingFault::Places(n));
-        }
-        *self = Ring { n };
+        *self = Ring::try_from(n)?;
         Ok(())
+    }
+}
+
+// The ring of n, if it is one.
+impl TryFrom<usize> for Ring {
+    type Error = RingFault;
+
+    ghost try_from_gives = { λ n r. MatchResult r (λ s. s.n ≡ n) (λ e. (e ≡ Places n) × ((1 ≤ n) × (n ≤ 32) → ⊥)) };
+
+    fn try_from(n: usize) -> Result<Self, RingFault> {
+        if (1..=MAX_VARIABLES).contains(&n) {
+            Ok(Ring { n })
+        } else {
+            Err(RingFault::Places(n))
+        }
     }
 }
 
@@ -50,7 +62,7 @@ impl TaskSource for Ring {
     }
 
     fn size(&self, v: usize) -> Option<u16> {
-        if v < self.variables() { Some(2) } else { None }
+        (v < self.variables()).then_some(2)
     }
 
     fn operators(&self) -> usize {
@@ -58,26 +70,18 @@ impl TaskSource for Ring {
     }
 
     fn needed(&self, o: usize, v: usize) -> Option<u16> {
-        if o < self.operators() && v == o {
-            Some(1)
-        } else {
-            None
-        }
+        (o < self.operators() && v == o).then_some(1)
     }
 
     fn made(&self, o: usize, v: usize) -> Option<u16> {
-        if o < self.operators() && v == (o + 1) % self.variables() {
-            Some(1)
-        } else {
-            None
-        }
+        (o < self.operators() && v == (o + 1) % self.variables()).then_some(1)
     }
 
     fn start(&self, v: usize) -> Option<u16> {
-        if v < self.variables() { Some(0) } else { None }
+        (v < self.variables()).then_some(0)
     }
 
     fn goal(&self, v: usize) -> Option<u16> {
-        if v == 0 { Some(1) } else { None }
+        (v == 0).then_some(1)
     }
 }
