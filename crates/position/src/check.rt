@@ -25,16 +25,8 @@ pub fn check_position<S: TaskSource>(source: &S, values: &[u16]) -> Result<(), P
 fn stray_value<S: TaskSource>(source: &S, values: &[u16]) -> Option<usize>
     ensures { Least (Stray (S.TaskSource.task source.now) values.now) result }
 {
-    for i in 0..values.len() {
-        if values[i] >= size_of(source, i) {
-            return Some(i);
-        }
-    }
-    None
-}
-
-fn size_of<S: TaskSource>(source: &S, v: usize) -> u16
-    ensures { result ≡ (S.TaskSource.task source.now).size v }
-{
-    size_or_one(source, v)
+    values
+        .iter()
+        .enumerate()
+        .position(|(v, value)| *value >= size_or_one(source, v))
 }
