@@ -74,7 +74,8 @@ fn table() -> &'static [u32; 1089]
 }
 
 fn entry(a: usize, b: usize) -> u32
-    requires { (a ≤ 32) × (b ≤ 32) }
+    requires things { a ≤ 32 }
+    requires members { b ≤ 32 }
     ensures { result ≡ length (choose a b) }
 {
     table()[a * 33 + b]
