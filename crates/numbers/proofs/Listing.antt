@@ -72,7 +72,7 @@ count_ones f (suc n) v h =
     let rest : count f n (suc v) ≡ ones (f / 2 ^ v / 2) = count_ones f n (suc v) up ∙ ap ones (halved f v) in
     omega (arith, one_bit (f / 2 ^ v % 2) (omega arith), ones_step (f / 2 ^ v))
 
-count_all : (f : ℕ) → f < 2 ^ 32 → count f 32 0 ≡ ones f
+pub count_all : (f : ℕ) → f < 2 ^ 32 → count f 32 0 ≡ ones f
 count_all f h = let z : f / 2 ^ 0 ≡ f = omega arith in count_ones f 32 0 (omega arith) ∙ ap ones z
 
 -- ---- the sets of k candidates

@@ -6,7 +6,7 @@ use Rattle.std.proofs.lemmas.Bool.{cases_lt, cond-true, cond-false, and_from, lt
 use Rattle.model.specs.LeaveOut.{has}
 use Rattle.model.specs.Frames.{choose}
 use Rattle.counts.proofs.Entries.{choose_more}
-use Rattle.numbers.specs.Numbers.{count, among, before}
+use Rattle.numbers.specs.Numbers.{count, among, frames, before}
 
 module _ (c n v : ℕ) where
   pub count_in : has c v ≡ true → count c (suc n) v ≡ suc (count c n (suc v))
@@ -134,8 +134,15 @@ zero_both true = refl
 zero_both false = refl
 
 -- the table's answer, which is 0 past its end
-pub counted : (a k : ℕ) → a ≤ 32 → cond (ltb a 33 && ltb k 33) (length (choose a k)) 0 ≡ length (choose a k)
+counted : (a k : ℕ) → a ≤ 32 → cond (ltb a 33 && ltb k 33) (length (choose a k)) 0 ≡ length (choose a k)
 counted a k h = ⊎_elim
     (λ l. cond-true (ltb a 33 && ltb k 33) (length (choose a k)) 0 (and_from (ltb a 33) (ltb k 33) (lt-ltb a 33 (omega arith)) (lt-ltb k 33 l)))
     (λ l. let none = choose_over a k (omega arith) in ap (λ x. cond (ltb a 33 && ltb k 33) x 0) none ∙ zero_both (ltb a 33 && ltb k 33) ∙ sym none)
     (cases_lt k 33)
+
+-- how many sets of candidates there are, from the table and within 32 bits
+pub frames_counted : (c k : ℕ) → length (frames c k) ≡ cond (ltb (count c 32 0) 33 && ltb k 33) (length (choose (count c 32 0) k)) 0
+frames_counted c k = among_length c 32 0 k ∙ sym (counted (count c 32 0) k (count_le c 32 0))
+
+pub frames_few : (c k : ℕ) → length (frames c k) < 4294967296
+frames_few c k = omega (arith, among_length c 32 0 k, choose_small (count c 32 0) k (count_le c 32 0))

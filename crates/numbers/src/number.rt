@@ -15,17 +15,19 @@ pub fn all_variables(n: usize) -> u32
 }
 
 // How many sets of k candidates there are.
+#[tactic(auto, using(crate::proofs::Windows::frames_counted))]
 pub fn frame_count(candidates: u32, k: usize) -> u32
     ensures count { result ≡ length (frames candidates k) }
     ensures order { Listed candidates k }
 {
-    sets_of(candidates, k)
+    subsets(members(candidates), k)
 }
 
 // The number of a set of candidates among all that have as many variables.
 pub fn number_of(candidates: u32, mask: u32) -> Option<u32>
     ensures { Numbered candidates mask result }
 {
+    // A loop, not a chain: three numbers change together.
     let mut left = members(candidates);
     let mut wanted = members(mask);
     let mut number = 0;
@@ -50,24 +52,15 @@ pub fn number_of(candidates: u32, mask: u32) -> Option<u32>
 pub fn frame_of(candidates: u32, k: usize, number: u32) -> Option<u32>
     ensures { FrameOf candidates k number result }
 {
-    if number < sets_of(candidates, k) {
-        Some(set_at(candidates, k, number))
-    } else {
-        None
-    }
+    (number < frame_count(candidates, k)).then(|| set_at(candidates, k, number))
 }
 
-// How many sets of k candidates there are.
-fn sets_of(candidates: u32, k: usize) -> u32
-    ensures { result ≡ length (frames candidates k) }
-{
-    subsets(members(candidates), k)
-}
-
+// The set of k candidates with a number that there is.
 fn set_at(candidates: u32, k: usize, number: u32) -> u32
     requires { number < length (frames candidates k) }
     ensures { result ≡ slice_index (frames candidates k) number }
 {
+    // A loop, not a chain: four numbers change together.
     let mut left = members(candidates);
     let mut wanted = k;
     let mut rest = number;
@@ -89,11 +82,10 @@ fn set_at(candidates: u32, k: usize, number: u32) -> u32
 }
 
 // The set after this one, of those that have as many variables.
+#[tactic(auto, using(crate::proofs::Windows::frames_few))]
 pub fn frame_after(candidates: u32, mask: u32) -> Option<u32>
     ensures { FrameAfter candidates mask result }
 {
-    match number_of(candidates, mask) {
-        Some(number) => frame_of(candidates, members(mask), number + 1),
-        None => None,
-    }
+    let number = number_of(candidates, mask)?;
+    frame_of(candidates, members(mask), number + 1)
 }

@@ -3,31 +3,20 @@ ghost use Rattle.std.specs.Prelude.{◌≡◌, ◌-◌, ◌^◌, ◌≤◌, min}
 ghost use Rattle.numbers.specs.Numbers.{count, before};
 
 use counts::subsets;
-use task::mask::contains;
 use task::moves::MAX_VARIABLES;
 
-// The mask of the variables below n. A shift by 32 would pass the end of the mask.
+// The mask of the variables below n. A shift by 32 would pass the end of 32 bits, and not of 64.
 pub(crate) fn lowest(n: usize) -> u32
     ensures { result ≡ 2 ^ min n 32 - 1 }
 {
-    if n < MAX_VARIABLES {
-        (1 << n) - 1
-    } else {
-        u32::MAX
-    }
+    ((1_u64 << n.min(MAX_VARIABLES)) - 1) as u32
 }
 
 // How many variables the mask has.
 pub(crate) fn members(mask: u32) -> usize
     ensures { result ≡ count mask 32 0 }
 {
-    let mut found = 0;
-    for v in 0..MAX_VARIABLES {
-        if contains(mask, v) {
-            found += 1;
-        }
-    }
-    found
+    mask.count_ones() as usize
 }
 
 // How many sets have the next candidate, of those that have this many variables to come, where so many candidates follow it.

@@ -1,7 +1,7 @@
 use Rattle.std.proofs.Common.{◌≡◌, ℕ, suc, ◌+◌, ◌-◌, ◌%◌, ◌^◌, true, false, List, sym, ap, ◌∙◌, subst, subst₂, arith}
 use Rattle.model.specs.LeaveOut.{has}
 use Rattle.numbers.specs.Numbers.{count, among, frames, before}
-use Rattle.numbers.proofs.Windows.{Window, count_le, among_length, choose_small}
+use Rattle.numbers.proofs.Windows.{Window, count_le, frames_few}
 use Rattle.numbers.proofs.Walking.{count_up_in, count_up_out, mask_with, mask_without, mask_past, window_end}
 use Rattle.numbers.proofs.number.number_of.Goals as goal
 use Rattle.numbers.proofs.number.number_of.Goals.{then-contains-2, else-contains-2}
@@ -41,7 +41,7 @@ overflow_add-number c =
     let fewer : c.loop-v.left - 1 ≡ count cs (32 - (v + 1)) (v + 1) = omega (arith, c.loop-v.invariant.0, one) in
     let over : c.sets_before-number.result ≡ before (count cs (32 - (v + 1)) (v + 1)) c.loop-v.wanted = c.sets_before-number.ensures ∙ ap (λ a. before a c.loop-v.wanted) fewer in
     let next = mask_without v c.loop-v-test.true (frames cs (count f 32 0)) cs c.loop-v.number f c.loop-v.wanted (sym c.if-not-contains.ensures) (sym c.if-contains-2.ensures) c.loop-v.invariant.2 in
-    omega (arith, over, next.fits, among_length cs 32 0 (count f 32 0), choose_small (count cs 32 0) (count f 32 0) (count_le cs 32 0))
+    omega (arith, over, next.fits, frames_few cs (count f 32 0))
 
 pub loop-v-preserved : goal.loop-v-preserved
 loop-v-preserved c =
