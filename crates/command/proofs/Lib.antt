@@ -1,2 +1,3 @@
+pub mod Texts
 pub mod Wording
-pub mod Narrowing
+pub mod Saying

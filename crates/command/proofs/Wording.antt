@@ -1,20 +1,20 @@
 -- The words of a line, one after the other, and the numbers that they write.
-use Rattle.std.proofs.Common.{◌≡◌, ℕ, ◌^◌, ◌<◌, Bool, true, false, cond, ltb, List, [], ◌∷◌, ◌++◌, length, get_or, drop, Some, None, Ok, Err, Option, Result, sym, refl, ap, ◌∙◌, subst, ⊎_elim, append_assoc, append-nil, rules}
-use Rattle.std.specs.Str.{bytes_eq as same_text, NoCharPasses, EmptyOrStartsWithPassing, all_ascii_digits}
-use Rattle.std.specs.Cmp.Lexicographic.{bytes_decides}
+use Rattle.std.proofs.Common.{◌≡◌, ℕ, ◌^◌, ◌<◌, Bool, true, false, ltb, List, [], ◌∷◌, ◌++◌, length, get_or, drop, Some, None, Ok, Err, Option, Result, sym, refl, ap, ◌∙◌, subst, ⊎_elim, append_assoc, append-nil, rules}
+use Rattle.std.specs.Str.{IsUtf8, NoCharPasses, EmptyOrStartsWithPassing, all_ascii_digits}
 use Rattle.std.specs.Char.{is_whitespace, is_not_whitespace}
 use Rattle.std.specs.Result.{OkIff, result_ok}
 use Rattle.std.specs.Str.Parse.{ParsesUnsigned}
+use Rattle.std.specs.Option.{ok_or}
+use Rattle.command.specs.declared.kinds.LineFault.{LineFault}
+use Rattle.command.specs.declared.kinds.LineFault.TheVariants.{NoNumber}
 use Rattle.std.proofs.lemmas.Str.Parse.{IsNumeralModel, numerals_by_fold, parse_plain, parse_plus}
 use Rattle.std.proofs.lemmas.Bool.{cases_eq, cond-true, cond-false, and_from, and_parts, lt-ltb, ltb-true, eq-eqb, ne_eqb}
+use Rattle.command.proofs.Texts.{after_word, has_words}
 use Rattle.command.specs.Words.{FirstWord, Words, read_on, fitting, numeral, before, numerals}
 
 untrue : (b : Bool) → (b ≡ true → ⊥) → b ≡ false
 untrue true h = absurd (h refl)
 untrue false h = refl
-
-pub unlike : (w t : List ℕ) → (w ≡ t → ⊥) → same_text w t ≡ false
-unlike w t n = untrue (same_text w t) (λ e. n ((bytes_decides w t).0 e))
 
 -- ---- words
 
@@ -41,6 +41,14 @@ number_read w r h = ⊎_elim
     (λ n. digits_read w r (parse_plain own 32 w r h n) ∙ ap (λ i. fitting 32 (drop i w)) (sym (cond-false _ 1 0 (ne_eqb _ 43 n))))
     (cases_eq (get_or w 0 0) 43)
 
+pub written : (o : Option ℕ) (x : ℕ) → Ok x ≡ ok_or o NoNumber → o ≡ Some x
+written None x h = cc
+written (Some y) x h = cc
+
+pub unwritten : (o : Option ℕ) (fault : LineFault) → Err fault ≡ ok_or o NoNumber → (o ≡ None) × (fault ≡ NoNumber)
+unwritten None fault h = (refl, cc)
+unwritten (Some y) fault h = absurd (cc)
+
 pushed : Option (List ℕ) → Option ℕ → Option (List ℕ)
 pushed None x = None
 pushed (Some xs) None = None
@@ -61,38 +69,40 @@ numerals_push bits (v ∷ ws) w = ap (before (numeral bits v)) (numerals_push bi
     go (Some x) (Some xs) None = refl
     go (Some x) (Some xs) (Some y) = refl
 
--- a loop over the words of a text: those before rest are seen, and the numbers that they write are found, unless one of them writes none
-pub record Sofar (text rest : List ℕ) (all : Bool) (found : List ℕ) : Type 0 where
+before_none : (x : Option ℕ) → before x None ≡ None
+before_none None = refl
+before_none (Some x) = refl
+
+numerals_not : (bits : ℕ) (vs ws : List (List ℕ)) (w : List ℕ) → numeral bits w ≡ None → numerals bits (vs ++ (w ∷ ws)) ≡ None
+numerals_not bits [] ws w e = ap (λ x. before x (numerals bits ws)) e
+numerals_not bits (v ∷ vs) ws w e = ap (before (numeral bits v)) (numerals_not bits vs ws w e) ∙ before_none (numeral bits v)
+
+-- a loop over the words of a text: those before rest are seen, and the numbers that they write are found
+pub record Sofar (text rest found : List ℕ) : Type 0 where
   pub seen : List (List ℕ)
   pub split : (ws : List (List ℕ)) → Words rest ws → Words text (seen ++ ws)
-  pub numbers : cond all (Some found) None ≡ numerals 32 seen
+  pub numbers : numerals 32 seen ≡ Some found
+  pub utf8 : IsUtf8 rest
 
-pub sofar_none : (text : List ℕ) → Sofar text text true []
-sofar_none text = record { seen = []; split = λ ws h. h; numbers = refl }
+pub sofar_none : (text : List ℕ) → IsUtf8 text → Sofar text text []
+sofar_none text u = record { seen = []; split = λ ws h. h; numbers = refl; utf8 = u }
 
-module _ {text rest : List ℕ} {all : Bool} {found : List ℕ} (old : Sofar text rest all found) where
-  pub sofar_all : Words rest [] → (ws : List (List ℕ)) × Words text ws × (cond all (Some found) None ≡ numerals 32 ws)
+module _ {text rest found : List ℕ} (old : Sofar text rest found) where
+  pub sofar_all : Words rest [] → (ws : List (List ℕ)) × Words text ws × (numerals 32 ws ≡ Some found)
   sofar_all none = (old.seen, subst (Words text) (append-nil old.seen) (old.split [] none), old.numbers)
 
   module _ {w next : List ℕ} (first : FirstWord rest w next) where
-    split_more : (ws : List (List ℕ)) → Words next ws → Words text ((old.seen ++ (w ∷ [])) ++ ws)
-    split_more ws h = subst (Words text) (sym (append_assoc old.seen (w ∷ []) ws)) (old.split (w ∷ ws) (next, first, h))
-
-    numbers_more : numerals 32 (old.seen ++ (w ∷ [])) ≡ pushed (cond all (Some found) None) (numeral 32 w)
-    numbers_more = numerals_push 32 old.seen w ∙ ap (λ xs. pushed xs (numeral 32 w)) (sym old.numbers)
-
-    pub sofar_number : (x : ℕ) → numeral 32 w ≡ Some x → Sofar text next all (found ++ (x ∷ []))
+    pub sofar_more : (x : ℕ) → numeral 32 w ≡ Some x → Sofar text next (found ++ (x ∷ []))
     unfolding pushed
-    sofar_number x e = record { seen = old.seen ++ (w ∷ []); split = split_more; numbers = sym (numbers_more ∙ ap (pushed (cond all (Some found) None)) e ∙ go all) }
-      where
-        go : (b : Bool) → pushed (cond b (Some found) None) (Some x) ≡ cond b (Some (found ++ (x ∷ []))) None
-        go true = refl
-        go false = refl
+    sofar_more x e = record {
+      seen = old.seen ++ (w ∷ []);
+      split = λ ws h. subst (Words text) (sym (append_assoc old.seen (w ∷ []) ws)) (old.split (w ∷ ws) (next, first, h));
+      numbers = numerals_push 32 old.seen w ∙ ap (λ xs. pushed xs (numeral 32 w)) old.numbers ∙ ap (pushed (Some found)) e;
+      utf8 = after_word rest w next first old.utf8;
+    }
 
-    pub sofar_no_number : numeral 32 w ≡ None → Sofar text next false found
-    unfolding pushed
-    sofar_no_number e = record { seen = old.seen ++ (w ∷ []); split = split_more; numbers = sym (numbers_more ∙ ap (pushed (cond all (Some found) None)) e ∙ go all) }
-      where
-        go : (b : Bool) → pushed (cond b (Some found) None) None ≡ None
-        go true = refl
-        go false = refl
+    -- a word that writes no number
+    pub sofar_not : numeral 32 w ≡ None → (ws : List (List ℕ)) × Words text ws × (numerals 32 ws ≡ None)
+    sofar_not e =
+        let later = has_words next (after_word rest w next first old.utf8) in
+        (old.seen ++ (w ∷ later.0), old.split (w ∷ later.0) (next, first, later.1), numerals_not 32 old.seen later.0 w e)

@@ -5,6 +5,8 @@ use Rattle.command.specs.declared.kinds.Verb.{Verb}
 use Rattle.command.specs.declared.kinds.Verb.TheVariants as verb
 use Rattle.command.specs.declared.kinds.Command.{Command}
 use Rattle.command.specs.declared.kinds.Command.TheVariants as command
+use Rattle.command.specs.declared.kinds.Query.{Query}
+use Rattle.command.specs.declared.kinds.Query.TheVariants as query
 use Rattle.command.specs.declared.kinds.LineFault.{LineFault}
 use Rattle.command.specs.declared.kinds.LineFault.TheVariants.{NoCommand, NoNumber, WrongCount}
 use Rattle.command.specs.Words.{numerals}
@@ -97,17 +99,20 @@ abbrev pub says : List (List ℕ) → Option (Result Saying LineFault)
 says [] = None
 says (w ∷ ws) = Some (with_numbers (verb_of w) (numerals 32 ws))
 
+abbrev pub asked : Query → Saying
+asked query.Task = task
+asked (query.Follow v) = follow (vec_items v)
+asked (query.Image v x) = image v x
+asked (query.Frame mask) = frame mask
+asked (query.Code mask v) = code mask (vec_items v)
+asked (query.Step mask c o) = step mask c o
+
 abbrev pub saying_of : Command → Saying
 saying_of (command.Card v) = card (vec_items v)
 saying_of (command.Ring n) = ring n
 saying_of (command.LeaveOut mask) = leave_out mask
 saying_of (command.Join v a b) = join v a b
-saying_of command.Task = task
-saying_of (command.Follow v) = follow (vec_items v)
-saying_of (command.Image v x) = image v x
-saying_of (command.Frame mask) = frame mask
-saying_of (command.Code mask v) = code mask (vec_items v)
-saying_of (command.Step mask c o) = step mask c o
+saying_of (command.Ask q) = asked q
 
 -- what the answer of the parser says
 abbrev pub meant : Result Command LineFault → Result Saying LineFault

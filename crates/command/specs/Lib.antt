@@ -1,2 +1,3 @@
 pub mod Words
 pub mod Commands
+pub mod Faults

@@ -1,13 +1,15 @@
 // From a line of text to a command.
-ghost use Rattle.std.specs.Prelude.{◌≡◌, ℕ, List, IfOk};
+ghost use Rattle.std.specs.Prelude.{◌≡◌, ℕ, List};
 ghost use Rattle.std.specs.Option.{option_map};
+ghost use Rattle.std.specs.Result.{result_transpose};
 ghost use Rattle.command.specs.Words.{Words, BeforeComment};
 ghost use Rattle.command.specs.Commands.{says, meant};
+ghost use Rattle.command.specs.Faults.{IfMemorySuffices};
 
-use crate::kinds::{Command, LineFault};
-use crate::take::{command_of, verb};
+use crate::kinds::{Command, ParseError, Verb};
+use crate::take::command;
 use crate::words::numbers;
-use std::alloc::{AllocError, Global};
+use std::alloc::Global;
 
 // What the line has before its comment.
 fn before_comment(line: &str) -> &str
@@ -20,13 +22,14 @@ fn before_comment(line: &str) -> &str
 }
 
 // The command of a line, and none where the line is blank or only a comment.
-pub fn parse(heap: Global, line: &str) -> Result<Option<Result<Command, LineFault>>, AllocError>
-    ensures { IfOk result (λ answer. (text : List ℕ) × (ws : List (List ℕ)) × BeforeComment line.now text × Words text ws × (option_map meant answer ≡ says ws)) }
+pub fn parse(heap: Global, line: &str) -> Result<Option<Command>, ParseError>
+    ensures { IfMemorySuffices result (λ answer. (text : List ℕ) × (ws : List (List ℕ)) × BeforeComment line.now text × Words text ws × (option_map meant (result_transpose answer) ≡ says ws)) }
 {
     let mut words = before_comment(line).split_whitespace();
     let Some(name) = words.next() else {
         return Ok(None);
     };
-    let found = numbers(heap, words)?;
-    Ok(Some(command_of(heap, verb(name), found)?))
+    let verb = name.parse::<Verb>()?;
+    let numbers = numbers(heap, words)?;
+    Ok(Some(command(heap, verb, numbers.as_slice())?))
 }

@@ -1,179 +1,59 @@
 // The command that a verb and its numbers make.
-ghost use Rattle.std.specs.Prelude.{◌≡◌, IfOk, if◌then◌else◌, Some, None, vec_items};
-ghost use Rattle.std.specs.Option.{option_map};
-ghost use Rattle.command.specs.declared.kinds.Verb.TheVariants.{Ring, LeaveOut, Join, Task, Image, Frame, Code, Step};
-ghost use Rattle.command.specs.Commands.{verb_of, all_narrow, taking, with_numbers, meant};
+ghost use Rattle.std.specs.Prelude.{◌≡◌, if◌then◌else◌, Ok, Err, vec_items};
+ghost use Rattle.std.specs.Result.{result_map_both};
+ghost use Rattle.command.specs.declared.kinds.LineFault.TheVariants.{NoNumber};
+ghost use Rattle.command.specs.Commands.{narrow, all_narrow, taking, meant};
+ghost use Rattle.command.specs.Faults.{IfMemorySuffices};
 
-use crate::kinds::{Command, LineFault, Verb};
-use std::alloc::{AllocError, Global};
+use crate::kinds::{Command, LineFault, ParseError, Query, Verb};
+use std::alloc::Global;
 
-pub(crate) fn verb(name: &str) -> Option<Verb>
-    ensures { result ≡ verb_of name.now }
+// The number as a word of 16 bits.
+fn word(number: u32) -> Result<u16, LineFault>
+    ensures { result ≡ (if narrow number then Ok number else Err NoNumber) }
 {
-    match name {
-        "card" => Some(Verb::Card),
-        "ring" => Some(Verb::Ring),
-        "leave-out" => Some(Verb::LeaveOut),
-        "join" => Some(Verb::Join),
-        "task" => Some(Verb::Task),
-        "follow" => Some(Verb::Follow),
-        "image" => Some(Verb::Image),
-        "frame" => Some(Verb::Frame),
-        "code" => Some(Verb::Code),
-        "step" => Some(Verb::Step),
-        _ => None,
-    }
+    u16::try_from(number).map_err(|_| LineFault::NoNumber)
 }
 
-// The numbers as words of 16 bits, if each of them is one.
-fn narrowed(heap: Global, numbers: &[u32]) -> Result<Option<Vec<u16>>, AllocError>
-    ensures { IfOk result (λ found. option_map vec_items found ≡ (if all_narrow numbers.now then Some numbers.now else None)) }
+fn words(heap: Global, numbers: &[u32]) -> Result<Vec<u16>, ParseError>
+    ensures { IfMemorySuffices result (λ found. result_map_both vec_items (λ fault. fault) found ≡ (if all_narrow numbers.now then Ok numbers.now else Err NoNumber)) }
 {
     let mut found = Vec::new(heap);
     for x in numbers {
-        let Ok(word) = u16::try_from(*x) else {
-            return Ok(None);
-        };
-        found.push(word)?;
+        found.push(word(*x)?)?;
     }
-    Ok(Some(found))
+    Ok(found)
 }
 
-fn ring(numbers: &[u32]) -> Result<Command, LineFault>
-    ensures { meant result ≡ taking Ring numbers.now }
+// The command of this verb with these numbers.
+pub(crate) fn command(heap: Global, verb: Verb, numbers: &[u32]) -> Result<Command, ParseError>
+    ensures { IfMemorySuffices result (λ answer. meant answer ≡ taking verb numbers.now) }
 {
-    match numbers {
-        [n] => Ok(Command::Ring(*n)),
-        _ => Err(LineFault::WrongCount),
-    }
-}
-
-fn leave_out(numbers: &[u32]) -> Result<Command, LineFault>
-    ensures { meant result ≡ taking LeaveOut numbers.now }
-{
-    match numbers {
-        [mask] => Ok(Command::LeaveOut(*mask)),
-        _ => Err(LineFault::WrongCount),
-    }
-}
-
-fn join(numbers: &[u32]) -> Result<Command, LineFault>
-    ensures { meant result ≡ taking Join numbers.now }
-{
-    let [variable, a, b] = numbers else {
-        return Err(LineFault::WrongCount);
-    };
-    let (Ok(low), Ok(high)) = (u16::try_from(*a), u16::try_from(*b)) else {
-        return Err(LineFault::NoNumber);
-    };
-    Ok(Command::Join {
-        variable: *variable,
-        low,
-        high,
-    })
-}
-
-fn task(numbers: &[u32]) -> Result<Command, LineFault>
-    ensures { meant result ≡ taking Task numbers.now }
-{
-    match numbers {
-        [] => Ok(Command::Task),
-        _ => Err(LineFault::WrongCount),
-    }
-}
-
-fn image(numbers: &[u32]) -> Result<Command, LineFault>
-    ensures { meant result ≡ taking Image numbers.now }
-{
-    let [variable, x] = numbers else {
-        return Err(LineFault::WrongCount);
-    };
-    let Ok(value) = u16::try_from(*x) else {
-        return Err(LineFault::NoNumber);
-    };
-    Ok(Command::Image {
-        variable: *variable,
-        value,
-    })
-}
-
-fn frame(numbers: &[u32]) -> Result<Command, LineFault>
-    ensures { meant result ≡ taking Frame numbers.now }
-{
-    match numbers {
-        [mask] => Ok(Command::Frame(*mask)),
-        _ => Err(LineFault::WrongCount),
-    }
-}
-
-fn code(heap: Global, numbers: &[u32]) -> Result<Result<Command, LineFault>, AllocError>
-    ensures { IfOk result (λ answer. meant answer ≡ taking Code numbers.now) }
-{
-    let Some((mask, rest)) = numbers.split_first() else {
-        return Ok(Err(LineFault::WrongCount));
-    };
-    match narrowed(heap, rest)? {
-        Some(values) => Ok(Ok(Command::Code {
+    Ok(match (verb, numbers) {
+        (Verb::Card, numbers) => Command::Card(words(heap, numbers)?),
+        (Verb::Ring, [n]) => Command::Ring(*n),
+        (Verb::LeaveOut, [mask]) => Command::LeaveOut(*mask),
+        (Verb::Join, [variable, low, high]) => Command::Join {
+            variable: *variable,
+            low: word(*low)?,
+            high: word(*high)?,
+        },
+        (Verb::Task, []) => Command::Ask(Query::Task),
+        (Verb::Follow, numbers) => Command::Ask(Query::Follow(words(heap, numbers)?)),
+        (Verb::Image, [variable, value]) => Command::Ask(Query::Image {
+            variable: *variable,
+            value: word(*value)?,
+        }),
+        (Verb::Frame, [mask]) => Command::Ask(Query::Frame(*mask)),
+        (Verb::Code, [mask, values @ ..]) => Command::Ask(Query::Code {
             mask: *mask,
-            values,
-        })),
-        None => Ok(Err(LineFault::NoNumber)),
-    }
-}
-
-fn step(numbers: &[u32]) -> Result<Command, LineFault>
-    ensures { meant result ≡ taking Step numbers.now }
-{
-    match numbers {
-        [mask, code, operator] => Ok(Command::Step {
+            values: words(heap, values)?,
+        }),
+        (Verb::Step, [mask, code, operator]) => Command::Ask(Query::Step {
             mask: *mask,
             code: *code,
             operator: *operator,
         }),
-        _ => Err(LineFault::WrongCount),
-    }
-}
-
-// The command of this verb with these numbers.
-fn command(
-    heap: Global,
-    verb: Verb,
-    numbers: &[u32],
-) -> Result<Result<Command, LineFault>, AllocError>
-    ensures { IfOk result (λ answer. meant answer ≡ taking verb numbers.now) }
-{
-    Ok(match verb {
-        Verb::Card => match narrowed(heap, numbers)? {
-            Some(words) => Ok(Command::Card(words)),
-            None => Err(LineFault::NoNumber),
-        },
-        Verb::Follow => match narrowed(heap, numbers)? {
-            Some(operators) => Ok(Command::Follow(operators)),
-            None => Err(LineFault::NoNumber),
-        },
-        Verb::Ring => ring(numbers),
-        Verb::LeaveOut => leave_out(numbers),
-        Verb::Join => join(numbers),
-        Verb::Task => task(numbers),
-        Verb::Image => image(numbers),
-        Verb::Frame => frame(numbers),
-        Verb::Code => code(heap, numbers)?,
-        Verb::Step => step(numbers),
+        _ => return Err(LineFault::WrongCount.into()),
     })
-}
-
-pub(crate) fn command_of(
-    heap: Global,
-    verb: Option<Verb>,
-    numbers: Option<Vec<u32>>,
-) -> Result<Result<Command, LineFault>, AllocError>
-    ensures { IfOk result (λ answer. meant answer ≡ with_numbers verb (option_map vec_items numbers)) }
-{
-    let Some(verb) = verb else {
-        return Ok(Err(LineFault::NoCommand));
-    };
-    let Some(numbers) = numbers else {
-        return Ok(Err(LineFault::NoNumber));
-    };
-    command(heap, verb, numbers.as_slice())
 }

@@ -1,33 +1,32 @@
 // The words of a line as numbers.
-ghost use Rattle.std.specs.Prelude.{◌≡◌, ℕ, List, IfOk, vec_items};
-ghost use Rattle.std.specs.Option.{option_map};
+ghost use Rattle.std.specs.Prelude.{◌≡◌, ℕ, List, vec_items};
+ghost use Rattle.std.specs.Option.{ok_or};
+ghost use Rattle.std.specs.Result.{result_map_both};
+ghost use Rattle.std.specs.Str.{IsUtf8};
 ghost use Rattle.std.specs.Str.Iter.{split_whitespace_rest};
+ghost use Rattle.command.specs.declared.kinds.LineFault.TheVariants.{NoNumber};
 ghost use Rattle.command.specs.Words.{Words, numeral, numerals};
+ghost use Rattle.command.specs.Faults.{IfMemorySuffices};
 
-use std::alloc::{AllocError, Global};
+use crate::kinds::{LineFault, ParseError};
+use std::alloc::Global;
 use std::str::SplitWhitespace;
 
 // The number of 32 bits that a word writes.
-fn number(word: &str) -> Option<u32>
-    ensures { result ≡ numeral 32 word.now }
+fn number(word: &str) -> Result<u32, LineFault>
+    ensures { result ≡ ok_or (numeral 32 word.now) NoNumber }
 {
-    word.parse::<u32>().ok()
+    word.parse::<u32>().map_err(|_| LineFault::NoNumber)
 }
 
-// The words that are left, as numbers, or none where one of them is no number.
-pub(crate) fn numbers(
-    heap: Global,
-    words: SplitWhitespace<'_>,
-) -> Result<Option<Vec<u32>>, AllocError>
-    ensures { IfOk result (λ found. (ws : List (List ℕ)) × Words (split_whitespace_rest words.entry) ws × (option_map vec_items found ≡ numerals 32 ws)) }
+// The words that are left, as numbers.
+pub(crate) fn numbers(heap: Global, words: SplitWhitespace<'_>) -> Result<Vec<u32>, ParseError>
+    requires { IsUtf8 (split_whitespace_rest words) }
+    ensures { IfMemorySuffices result (λ found. (ws : List (List ℕ)) × Words (split_whitespace_rest words.entry) ws × (result_map_both vec_items (λ fault. fault) found ≡ ok_or (numerals 32 ws) NoNumber)) }
 {
     let mut found = Vec::new(heap);
-    let mut all = true;
     for word in words {
-        match number(word) {
-            Some(x) => found.push(x)?,
-            None => all = false,
-        }
+        found.push(number(word)?)?;
     }
-    Ok(if all { Some(found) } else { None })
+    Ok(found)
 }

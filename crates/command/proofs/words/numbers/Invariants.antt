@@ -4,4 +4,4 @@ use Rattle.command.proofs.Wording.{Sofar}
 use Rattle.command.proofs.words.numbers.Given as goal
 
 abbrev pub invariant-loop-word : goal.invariant-loop-word
-invariant-loop-word l = Sofar (split_whitespace_rest l.words) (split_whitespace_rest l.word-iterator) l.all (vec_items l.found)
+invariant-loop-word l = Sofar (split_whitespace_rest l.words) (split_whitespace_rest l.word-iterator) (vec_items l.found)
