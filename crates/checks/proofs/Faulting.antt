@@ -1,13 +1,17 @@
 -- Which fault of a group is tried first, and when nothing is wrong.
-use Rattle.std.proofs.Common.{◌≡◌, ℕ, ◌<◌, ◌≤◌, true, List, length, Some, None, arith}
+use Rattle.std.proofs.Common.{◌≡◌, ℕ, ◌*◌, ◌<◌, ◌≤◌, true, false, List, length, Some, None, Option, arith}
+use Rattle.std.specs.Option.{MatchOption}
+use Rattle.std.proofs.lemmas.Bool.{both_ways}
 use Rattle.model.proofs.Truths.{true_T, T_true}
 use Rattle.model.specs.Tasks.{Task}
 use Rattle.model.specs.Orders.{Earlier, First, Least}
 use Rattle.shelves.specs.Shelves.{bit_of, bytes_for}
+use Rattle.shelves.proofs.Bytes.{bit_within}
+use Rattle.checks.specs.declared.room.Memory.{Memory}
 use Rattle.checks.specs.declared.fault.RegisterFault.{RegisterFault}
 use Rattle.checks.specs.declared.fault.RegisterFault.TheVariants.{WrongLength, SpareBit, BadMemory, OtherCount, OtherSize, NoRecord, PoolTooShort}
 use Rattle.checks.specs.Faults.{register_turn}
-use Rattle.checks.specs.Wrong.{Memory, RecordsFit, PoolFits, MemoryWrong, bad_records, bad_pool, BytesWrong, misfit, spare, TaskWrong, recount, resize, RoomWrong, records_full, pool_full}
+use Rattle.checks.specs.Wrong.{RecordsFit, PoolFits, MemoryWrong, bad_records, bad_pool, BytesWrong, misfit, spare, TaskWrong, recount, resize, RoomWrong, records_full, pool_full}
 
 -- ---- memory
 
@@ -75,6 +79,14 @@ module _ (t : Task) (n : ℕ) (sizes : ℕ → ℕ) where
 -- ---- the bytes of a claim
 
 module _ (size : ℕ) (bytes : List ℕ) where
+  abbrev Spare : ℕ → Type 0
+  Spare b = (size ≤ b) × (b < 8 * length bytes) × (bit_of bytes b ≡ true)
+
+  -- what a search from `size` on tells
+  pub spare_least : (r : Option ℕ) → MatchOption r ((c : ℕ) → size ≤ c → c < 8 * length bytes → bit_of bytes c ≡ false) (λ b. (size ≤ b) × (b < 8 * length bytes) × (bit_of bytes b ≡ true) × ((c : ℕ) → size ≤ c → c < b → bit_of bytes c ≡ false)) → Least Spare r
+  spare_least None none = λ b s. both_ways (bit_of bytes b) (none b s.0 s.1) s.2
+  spare_least (Some b) (h, l, e, first) = ((h, l, e), λ c k s. both_ways (bit_of bytes c) (first c s.0 k) s.2)
+
   pub first_length : (length bytes ≡ bytes_for size → ⊥) → First register_turn (BytesWrong size bytes) (WrongLength (length bytes))
   first_length h = (misfit h, go)
     where
@@ -82,13 +94,13 @@ module _ (size : ℕ) (bytes : List ℕ) where
       go _ (misfit _) k = omega arith
       go _ (spare b _ _) k = omega arith
 
-  pub first_spare : length bytes ≡ bytes_for size → (b : ℕ) → Least (λ c. (size ≤ c) × (bit_of bytes c ≡ true)) (Some b) → First register_turn (BytesWrong size bytes) (SpareBit b)
-  first_spare e b least = (spare b least.0.0 (true_T (bit_of bytes b) least.0.1), go)
+  pub first_spare : length bytes ≡ bytes_for size → (b : ℕ) → Least Spare (Some b) → First register_turn (BytesWrong size bytes) (SpareBit b)
+  first_spare e b least = (spare b least.0.0 (true_T (bit_of bytes b) least.0.2), go)
     where
       go : (d : RegisterFault) → BytesWrong size bytes d → Earlier (register_turn d) (register_turn (SpareBit b)) → ⊥
       go _ (misfit w) k = w e
-      go _ (spare c l w) k = least.1 c (omega arith) (l, T_true (bit_of bytes c) w)
+      go _ (spare c l w) k = least.1 c (omega arith) (l, bit_within bytes c w, T_true (bit_of bytes c) w)
 
-  pub bytes_right : length bytes ≡ bytes_for size → Least (λ c. (size ≤ c) × (bit_of bytes c ≡ true)) None → (e : RegisterFault) → BytesWrong size bytes e → ⊥
+  pub bytes_right : length bytes ≡ bytes_for size → Least Spare None → (e : RegisterFault) → BytesWrong size bytes e → ⊥
   bytes_right e none _ (misfit w) = w e
-  bytes_right e none _ (spare c l w) = none c (l, T_true (bit_of bytes c) w)
+  bytes_right e none _ (spare c l w) = none c (l, bit_within bytes c w, T_true (bit_of bytes c) w)

@@ -13,43 +13,43 @@ use Rattle.frame.specs.Held.{size_in}
 use Rattle.frame.specs.Steps.{LeadsTo}
 use Rattle.shelves.specs.Shelves as shelves
 use Rattle.shelves.specs.Shelves.{covered, bit_of}
-use Rattle.records.specs.declared.shelf.Shelf.{Shelf}
-use Rattle.records.specs.Records.{shelves_of, covered_in}
+use Rattle.records.specs.Records.{shelves_of}
 use Rattle.records.proofs.Looking.{covered_same}
+use Rattle.checks.specs.declared.closed.Claim.{Claim}
 use Rattle.checks.specs.declared.fault.RegisterFault.{RegisterFault}
 use Rattle.checks.specs.declared.fault.RegisterFault.TheVariants.{MeetsGoal, LeadsOut}
 use Rattle.checks.specs.Faults.{register_turn}
 use Rattle.checks.specs.Wrong.{Open, Leaves, SetWrong, meets, leads}
-use Rattle.checks.specs.Closing.{Fits, Sealed}
-
-not_true : (b : Bool) → false ≡ b → T (not b)
-not_true b e = subst (λ x. T (not x)) e tt
+use Rattle.checks.specs.Closing.{Fits, code_covered, Sealed}
 
 -- ---- what the tests of a code tell
 
-module _ (t : Task) (law : Lawful t) (frame : Frame) (rs : List Shelf) (pool bytes : List ℕ) (fits : Fits t frame rs) where
+module _ (t : Task) (law : Lawful t) (q : Claim) (fits : Fits t q.frame.now q.shelves.records.now) where
+  abbrev frame : Frame
+  frame = q.frame.now
+
+  abbrev bytes : List ℕ
+  bytes = q.bytes.now
+
   abbrev f : ℕ
   f = frame.mask
 
   abbrev ss : List shelves.Shelf
-  ss = shelves_of pool rs
+  ss = shelves_of q.shelves.pool.now q.shelves.records.now
 
-  abbrev told : ℕ → Bool
-  told c = covered_in pool rs f (values_by (size_in frame.sizes) f c)
-
-  covered_code : (c : ℕ) → told c ≡ covered t ss f (values t f c)
-  covered_code c = covered_same t pool rs f (values_by (size_in frame.sizes) f c) fits.2 ∙ ap (λ size. covered t ss f (values_by size f c)) fits.1
+  covered_code : (c : ℕ) → code_covered q c ≡ covered t ss f (values t f c)
+  covered_code c = covered_same t q.shelves.pool.now q.shelves.records.now f (values_by (size_in frame.sizes) f c) fits.2 ∙ ap (λ size. covered t ss f (values_by size f c)) fits.1
 
   pub size_same : frame.size ≡ frame_size t f
   size_same = frame.whole ∙ (λ i. width_by (fits.1 i) f (fits.0 i))
 
-  pub is_open : (c : ℕ) → c < frame.size → true ≡ (bit_of bytes c && not (told c)) → Open t ss f (bit_of bytes) c
+  pub is_open : (c : ℕ) → c < frame.size → true ≡ (bit_of bytes c && not (code_covered q c)) → Open t ss f (bit_of bytes) c
   is_open c h e =
-      let both_hold = true_T (bit_of bytes c && not (told c)) (sym e) in
-      (subst (λ n. c < n) size_same h, both_first (bit_of bytes c) (not (told c)) both_hold, subst (λ b. T (not b)) (covered_code c) (both_second (bit_of bytes c) (not (told c)) both_hold))
+      let both_hold = true_T (bit_of bytes c && not (code_covered q c)) (sym e) in
+      (subst (λ n. c < n) size_same h, both_first (bit_of bytes c) (not (code_covered q c)) both_hold, subst (λ b. T (not b)) (covered_code c) (both_second (bit_of bytes c) (not (code_covered q c)) both_hold))
 
-  pub not_open : (c : ℕ) → false ≡ (bit_of bytes c && not (told c)) → Open t ss f (bit_of bytes) c → ⊥
-  not_open c e o = false≢true (e ∙ T_true (bit_of bytes c && not (told c)) (both (bit_of bytes c) (not (told c)) o.1 (subst (λ b. T (not b)) (sym (covered_code c)) o.2)))
+  pub not_open : (c : ℕ) → false ≡ (bit_of bytes c && not (code_covered q c)) → Open t ss f (bit_of bytes) c → ⊥
+  not_open c e o = false≢true (e ∙ T_true (bit_of bytes c && not (code_covered q c)) (both (bit_of bytes c) (not (code_covered q c)) o.1 (subst (λ b. T (not b)) (sym (covered_code c)) o.2)))
 
   pub goal_same : (c : ℕ) → IsGoal (onto f t) (values t f c) → IsGoal (onto f t) (values_by (size_in frame.sizes) f c)
   goal_same c h = subst (λ size. IsGoal (onto f t) (values_by size f c)) (sym fits.1) h
@@ -65,15 +65,20 @@ module _ (t : Task) (law : Lawful t) (frame : Frame) (rs : List Shelf) (pool byt
     there : Applies (onto f t) o (values t f c) × (d ≡ code t f next)
     there = subst₂ (λ size n. LeadsTo (onto f t) size f n o c (Some d)) fits.1 fits.0 step
 
-    covered_next : told d ≡ covered t ss f next
+    covered_next : code_covered q d ≡ covered t ss f next
     covered_next =
         covered_code d ∙ ap (λ x. covered t ss f (values t f x)) there.1
         ∙ ap (covered t ss f) (values_code t law f next (after_legal (onto f t) (leave_out_lawful f t law) o (values t f c) (values_legal t law f c)))
 
-    pub leaves_decided : false ≡ bit_of bytes d → Decides (not (told d)) (Leaves t ss f (bit_of bytes) c o)
-    leaves_decided e = (
-      λ h. (there.0, subst (λ x. T (not (bit_of bytes x))) there.1 (not_true (bit_of bytes d) e), subst (λ b. T (not b)) covered_next (true_T (not (told d)) h)),
-      λ l. T_true (not (told d)) (subst (λ b. T (not b)) (sym covered_next) l.2),
+    pub leaves_decided : Decides (not (bit_of bytes d) && not (code_covered q d)) (Leaves t ss f (bit_of bytes) c o)
+    leaves_decided = (
+      λ h. let out = true_T (not (bit_of bytes d) && not (code_covered q d)) h in (
+        there.0,
+        subst (λ x. T (not (bit_of bytes x))) there.1 (both_first (not (bit_of bytes d)) (not (code_covered q d)) out),
+        subst (λ b. T (not b)) covered_next (both_second (not (bit_of bytes d)) (not (code_covered q d)) out),
+      ),
+      λ l. T_true (not (bit_of bytes d) && not (code_covered q d))
+          (both (not (bit_of bytes d)) (not (code_covered q d)) (subst (λ x. T (not (bit_of bytes x))) (sym there.1) l.1) (subst (λ b. T (not b)) (sym covered_next) l.2)),
     )
 
 -- ---- which fault is tried first

@@ -1,5 +1,5 @@
 -- What can be wrong with what a call of the register is given, in groups.
-use Rattle.std.specs.Prelude.{ℕ, ◌<◌, ◌≤◌, Bool, not, T, List, length, Some, None, Ok, Err, Option, Result, ◌≢◌}
+use Rattle.std.specs.Prelude.{ℕ, ◌<◌, ◌≤◌, Bool, not, T, List, length, Ok, Err, Result, ◌≢◌}
 use Rattle.model.specs.Tasks.{Task, Applies, after, IsGoal}
 use Rattle.model.specs.Orders.{First}
 use Rattle.model.specs.Frames.{onto, code, frame_size, values}
@@ -8,6 +8,7 @@ use Rattle.task.specs.Plans.{PlanWrong}
 use Rattle.frame.specs.declared.fault.FrameFault.{FrameFault}
 use Rattle.frame.specs.Wrong as frames
 use Rattle.shelves.specs.Shelves.{Shelf, covered, bit_of, bytes_for}
+use Rattle.checks.specs.declared.room.Memory.{Memory}
 use Rattle.checks.specs.declared.fault.RegisterFault.{RegisterFault}
 use Rattle.checks.specs.declared.fault.RegisterFault.TheVariants.{Frame, WrongLength, SpareBit, Plan, BadMemory, OtherCount, OtherSize, MeetsGoal, LeadsOut, NoRecord, PoolTooShort}
 use Rattle.checks.specs.Faults.{register_turn}
@@ -17,17 +18,7 @@ abbrev pub Checks : {A : Type 0} → (RegisterFault → Type 0) → Result A Reg
 Checks Wrong (Ok _) = (e : RegisterFault) → Wrong e → ⊥
 Checks Wrong (Err e) = First register_turn Wrong e
 
--- the fault of a group that is tried first, and none where nothing is wrong
-abbrev pub Earliest : (RegisterFault → Type 0) → Option RegisterFault → Type 0
-Earliest Wrong None = (e : RegisterFault) → Wrong e → ⊥
-Earliest Wrong (Some e) = First register_turn Wrong e
-
 -- ---- memory
-
--- the caller's memory: how many shelf records, and how many bytes of pool
-pub record Memory : Type 0 where
-  pub records : ℕ
-  pub pool : ℕ
 
 abbrev pub RecordsFit : Memory → Type 0
 RecordsFit M = (1 ≤ M.records) × (M.records ≤ 1024)

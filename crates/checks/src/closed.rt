@@ -1,24 +1,20 @@
 // Whether a claimed set of codes is closed.
 ghost use Rattle.std.specs.Prelude.{◌≡◌, not, ◌&&◌, Decides};
-ghost use Rattle.model.specs.Frames.{values_by};
-ghost use Rattle.frame.specs.Held.{size_in};
 ghost use Rattle.shelves.specs.Shelves.{bit_of};
-ghost use Rattle.records.specs.Records.{shelves_of, covered_in};
-ghost use Rattle.checks.specs.Wrong.{Checks, Earliest, Leaves, SetWrong};
-ghost use Rattle.checks.specs.Closing.{Fits};
+ghost use Rattle.records.specs.Records.{shelves_of};
+ghost use Rattle.checks.specs.Wrong.{Checks, Leaves, SetWrong};
+ghost use Rattle.checks.specs.Closing.{Fits, code_covered};
 
 use crate::fault::RegisterFault;
 use frame::frame::Frame;
 use records::bits::bit;
-use records::lookup::is_covered;
-use records::shelf::Shelf;
+use records::lookup::Shelves;
 use task::source::TaskSource;
 
 // The shelves that a claim may rest on, its frame and its bits.
 #[derive(Clone, Copy)]
 pub struct Claim<'r, 'p, 'f, 'b> {
-    pub records: &'r [Shelf],
-    pub pool: &'p [u8],
+    pub shelves: Shelves<'r, 'p>,
     pub frame: &'f Frame,
     pub bytes: &'b [u8],
 }
@@ -26,37 +22,43 @@ pub struct Claim<'r, 'p, 'f, 'b> {
 impl Claim<'_, '_, '_, '_> {
     // Whether the code c is on a shelf whose frame lies strictly inside the claim's.
     fn covers(&self, c: usize) -> bool
-        ensures { result ≡ covered_in self.now.pool.now self.now.records.now self.now.frame.now.mask (values_by (size_in self.now.frame.now.sizes) self.now.frame.now.mask c) }
+        ensures { result ≡ code_covered self.now c }
     {
-        is_covered(
-            self.records,
-            self.pool,
-            self.frame.mask(),
-            &self.frame.values(c),
-        )
+        self.shelves
+            .is_covered(self.frame.mask(), &self.frame.values(c))
     }
+
     // Whether the code c is claimed, and not covered.
     fn is_open(&self, c: usize) -> bool
-        ensures { result ≡ (bit_of self.now.bytes.now c && not (covered_in self.now.pool.now self.now.records.now self.now.frame.now.mask (values_by (size_in self.now.frame.now.sizes) self.now.frame.now.mask c))) }
+        ensures { result ≡ (bit_of self.now.bytes.now c && not (code_covered self.now c)) }
     {
         bit(self.bytes, c) && !self.covers(c)
     }
 
+    // Whether the code c is neither claimed nor covered.
+    fn is_out(&self, c: usize) -> bool
+        ensures { result ≡ (not (bit_of self.now.bytes.now c) && not (code_covered self.now c)) }
+    {
+        !bit(self.bytes, c) && !self.covers(c)
+    }
+
     // Whether the operator o leads from the code c to one that is neither claimed nor covered.
     fn leads_out<S: TaskSource>(&self, source: &S, c: usize, o: usize) -> bool
-        ensures { Fits (S.TaskSource.task source.now) self.now.frame.now self.now.records.now → Decides result (Leaves (S.TaskSource.task source.now) (shelves_of self.now.pool.now self.now.records.now) self.now.frame.now.mask (bit_of self.now.bytes.now) c o) }
+        ensures { Fits (S.TaskSource.task source.now) self.now.frame.now self.now.shelves.records.now → Decides result (Leaves (S.TaskSource.task source.now) (shelves_of self.now.shelves.pool.now self.now.shelves.records.now) self.now.frame.now.mask (bit_of self.now.bytes.now) c o) }
     {
+        // A match, not `is_some_and`: in a generic function a proof learns nothing from a closure that borrows the claim.
         match self.frame.step(source, o, c) {
-            Some(d) => !bit(self.bytes, d) && !self.covers(d),
+            Some(d) => self.is_out(d),
             None => false,
         }
     }
 
-    // The lowest code at which the claim is not closed decides: that it meets the goal, or else the lowest operator that leads out.
-    fn fault<S: TaskSource>(&self, source: &S) -> Option<RegisterFault>
-        ensures { Fits (S.TaskSource.task source.now) self.now.frame.now self.now.records.now → Earliest (SetWrong (S.TaskSource.task source.now) (shelves_of self.now.pool.now self.now.records.now) self.now.frame.now.mask (bit_of self.now.bytes.now)) result }
+    // Accepts a set that is closed over the shelves of smaller frames. The lowest code at which it is not decides: that it meets the goal,
+    // or else the lowest operator that leads out.
+    pub fn check<S: TaskSource>(&self, source: &S) -> Result<(), RegisterFault>
+        ensures { Fits (S.TaskSource.task source.now) self.now.frame.now self.now.shelves.records.now → Checks (SetWrong (S.TaskSource.task source.now) (shelves_of self.now.shelves.pool.now self.now.shelves.records.now) self.now.frame.now.mask (bit_of self.now.bytes.now)) result }
     {
-        let mut found = None;
+        let mut answer = Ok(());
         let m = source.operators();
         let size = self.frame.size();
         'codes: for c in 0..size {
@@ -64,26 +66,16 @@ impl Claim<'_, '_, '_, '_> {
                 continue;
             }
             if self.frame.meets_goal(source, c) {
-                found = Some(RegisterFault::MeetsGoal(c));
+                answer = Err(RegisterFault::MeetsGoal(c));
                 break 'codes;
             }
             for o in 0..m {
                 if self.leads_out(source, c, o) {
-                    found = Some(RegisterFault::LeadsOut(c, o));
+                    answer = Err(RegisterFault::LeadsOut(c, o));
                     break 'codes;
                 }
             }
         }
-        found
-    }
-
-    // Accepts a set that is closed over the shelves of smaller frames.
-    pub fn check<S: TaskSource>(&self, source: &S) -> Result<(), RegisterFault>
-        ensures { Fits (S.TaskSource.task source.now) self.now.frame.now self.now.records.now → Checks (SetWrong (S.TaskSource.task source.now) (shelves_of self.now.pool.now self.now.records.now) self.now.frame.now.mask (bit_of self.now.bytes.now)) result }
-    {
-        match self.fault(source) {
-            Some(fault) => Err(fault),
-            None => Ok(()),
-        }
+        answer
     }
 }

@@ -1,6 +1,6 @@
 // The memory that the caller lends, and room in it for one shelf more.
 ghost use Rattle.std.specs.Prelude.{◌≤◌, Decides};
-ghost use Rattle.checks.specs.Wrong.{Checks, Earliest, MemoryWrong, RoomWrong};
+ghost use Rattle.checks.specs.Wrong.{Checks, MemoryWrong, RoomWrong};
 
 use crate::fault::RegisterFault;
 
@@ -13,54 +13,40 @@ const MAX_POOL: usize = 1_048_576;
 fn fits(length: usize, limit: usize) -> bool
     ensures { Decides result ((1 ≤ length) × (length ≤ limit)) }
 {
-    length >= 1 && length <= limit
+    (1..=limit).contains(&length)
 }
 
-fn memory_fault(records: usize, pool: usize) -> Option<RegisterFault>
-    ensures { Earliest (MemoryWrong (record { records = records; pool = pool })) result }
-{
-    if !fits(records, MAX_RECORDS) {
-        return Some(RegisterFault::BadMemory(records));
-    }
-    if !fits(pool, MAX_POOL) {
-        return Some(RegisterFault::BadMemory(pool));
-    }
-    None
+// The caller's memory: how many shelf records, and how many bytes of pool.
+#[derive(Clone, Copy)]
+pub struct Memory {
+    pub records: usize,
+    pub pool: usize,
 }
 
-// Accepts 1 to 1,024 records, and 1 to 1,048,576 bytes.
-pub fn check_memory(records: usize, pool: usize) -> Result<(), RegisterFault>
-    ensures { Checks (MemoryWrong (record { records = records; pool = pool })) result }
-{
-    match memory_fault(records, pool) {
-        Some(fault) => Err(fault),
-        None => Ok(()),
+impl Memory {
+    // Accepts 1 to 1,024 records, and 1 to 1,048,576 bytes.
+    pub fn check(self) -> Result<(), RegisterFault>
+        ensures { Checks (MemoryWrong self) result }
+    {
+        if !fits(self.records, MAX_RECORDS) {
+            return Err(RegisterFault::BadMemory(self.records));
+        }
+        if !fits(self.pool, MAX_POOL) {
+            return Err(RegisterFault::BadMemory(self.pool));
+        }
+        Ok(())
     }
-}
 
-fn room_fault(records: usize, taken: usize, pool: usize, needed: usize) -> Option<RegisterFault>
-    ensures { Earliest (RoomWrong records taken pool needed) result }
-{
-    if taken >= records {
-        return Some(RegisterFault::NoRecord(records));
-    }
-    if pool < needed {
-        return Some(RegisterFault::PoolTooShort(needed));
-    }
-    None
-}
-
-// Accepts where one of so many records is free, and the pool has the bytes needed for all shelves with the new one.
-pub fn check_room(
-    records: usize,
-    taken: usize,
-    pool: usize,
-    needed: usize,
-) -> Result<(), RegisterFault>
-    ensures { Checks (RoomWrong records taken pool needed) result }
-{
-    match room_fault(records, taken, pool, needed) {
-        Some(fault) => Err(fault),
-        None => Ok(()),
+    // Accepts where one of the records is free, and the pool has the bytes needed for all shelves with the new one.
+    pub fn check_room(self, taken: usize, needed: usize) -> Result<(), RegisterFault>
+        ensures { Checks (RoomWrong self.records taken self.pool needed) result }
+    {
+        if taken >= self.records {
+            return Err(RegisterFault::NoRecord(self.records));
+        }
+        if self.pool < needed {
+            return Err(RegisterFault::PoolTooShort(needed));
+        }
+        Ok(())
     }
 }

@@ -2,51 +2,49 @@
 ghost use Rattle.std.specs.Prelude.{◌≡◌, ◌<◌, ◌≢◌};
 ghost use Rattle.model.specs.Orders.{Least};
 ghost use Rattle.frame.specs.Held.{size_in};
-ghost use Rattle.checks.specs.Wrong.{Checks, Earliest, TaskWrong};
+ghost use Rattle.checks.specs.Wrong.{Checks, TaskWrong};
 
 use crate::fault::RegisterFault;
+use frame::measure::sizes_of;
 use task::moves::MAX_VARIABLES;
 use task::source::TaskSource;
 
-// The lowest variable whose size differs.
-fn other_size<S: TaskSource>(source: &S, sizes: &[u16; MAX_VARIABLES]) -> Option<usize>
-    ensures { Least (λ v. (v < (S.TaskSource.task source.now).n) × (size_in sizes.now v ≢ (S.TaskSource.task source.now).size v)) result }
-{
-    let n = source.variables();
-    for v in 0..n {
-        if Some(sizes[v]) != source.size(v) {
-            return Some(v);
+// How many variables a task has, and their sizes.
+#[derive(Clone, Copy)]
+pub struct Variables {
+    pub n: usize,
+    pub sizes: [u16; MAX_VARIABLES],
+}
+
+impl Variables {
+    // Those of the task; past them each size is 1.
+    pub fn of<S: TaskSource>(source: &S) -> Variables
+        ensures n { result.n ≡ (S.TaskSource.task source.now).n }
+        ensures sizes { size_in result.sizes ≡ (S.TaskSource.task source.now).size }
+    {
+        Variables {
+            n: source.variables(),
+            sizes: sizes_of(source),
         }
     }
-    None
-}
 
-fn task_fault<S: TaskSource>(
-    source: &S,
-    n: usize,
-    sizes: &[u16; MAX_VARIABLES],
-) -> Option<RegisterFault>
-    ensures { Earliest (TaskWrong (S.TaskSource.task source.now) n (size_in sizes.now)) result }
-{
-    if source.variables() != n {
-        return Some(RegisterFault::OtherCount);
+    // The lowest variable whose size differs.
+    fn other_size<S: TaskSource>(&self, source: &S) -> Option<usize>
+        ensures { Least (λ v. (v < (S.TaskSource.task source.now).n) × (size_in self.now.sizes v ≢ (S.TaskSource.task source.now).size v)) result }
+    {
+        (0..source.variables()).find(|&v| self.sizes.get(v).copied() != source.size(v))
     }
-    match other_size(source, sizes) {
-        Some(v) => Some(RegisterFault::OtherSize(v)),
-        None => None,
-    }
-}
 
-// Accepts a task with this many variables of these sizes.
-pub fn check_task<S: TaskSource>(
-    source: &S,
-    n: usize,
-    sizes: &[u16; MAX_VARIABLES],
-) -> Result<(), RegisterFault>
-    ensures { Checks (TaskWrong (S.TaskSource.task source.now) n (size_in sizes.now)) result }
-{
-    match task_fault(source, n, sizes) {
-        Some(fault) => Err(fault),
-        None => Ok(()),
+    // Accepts a task with this many variables of these sizes.
+    pub fn check<S: TaskSource>(&self, source: &S) -> Result<(), RegisterFault>
+        ensures { Checks (TaskWrong (S.TaskSource.task source.now) self.now.n (size_in self.now.sizes)) result }
+    {
+        if source.variables() != self.n {
+            return Err(RegisterFault::OtherCount);
+        }
+        match self.other_size(source) {
+            Some(v) => Err(RegisterFault::OtherSize(v)),
+            None => Ok(()),
+        }
     }
 }

@@ -8,14 +8,16 @@ ghost use Rattle.records.specs.Bits.{reach};
 pub fn bit(bytes: &[u8], c: usize) -> bool
     ensures { result ≡ bit_of bytes.now c }
 {
-    c / 8 < bytes.len() && (bytes[c / 8] >> (c % 8)) % 2 == 1
+    bytes
+        .get(c / 8)
+        .is_some_and(|byte| (byte >> (c % 8)) % 2 == 1)
 }
 
 // The bytes that so many bits take.
 pub fn bytes_for(bits: usize) -> usize
     ensures { result ≡ bytes_for bits }
 {
-    bits / 8 + if bits % 8 == 0 { 0 } else { 1 }
+    bits.div_ceil(8)
 }
 
 // Any set of codes that can be filed.
@@ -52,6 +54,7 @@ pub fn join<C: CodeSet>(bytes: &mut [u8], set: &C, size: usize) -> usize
     ensures bits { (d : ℕ) → bit_of bytes.new d ≡ (bit_of bytes.old d || (nat_lt d (reach bytes.old size) && C.CodeSet.members set.now d)) }
     ensures new { result ≡ count (reach bytes.old size) (λ c. C.CodeSet.members set.now c && not (bit_of bytes.old c)) }
 {
+    // A loop, not a chain: each code both changes the bytes and is counted.
     let mut new = 0;
     for c in 0..size.min(bytes.len().saturating_mul(8)) {
         if set.contains(c) && !bit(bytes, c) {

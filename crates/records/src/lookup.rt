@@ -1,11 +1,10 @@
 // Looking shelves up, by their frames and by the positions on them.
-ghost use Rattle.std.specs.Prelude.{◌≡◌, ℕ, ◌&&◌, List};
+ghost use Rattle.std.specs.Prelude.{◌≡◌, ℕ, ◌<◌, ◌&&◌, List, length, MatchOption};
 ghost use Rattle.model.specs.Tasks.{position};
 ghost use Rattle.model.specs.Frames.{strictly_inside};
-ghost use Rattle.shelves.specs.Shelves.{bit_of, place};
-ghost use Rattle.records.specs.Records.{bytes_of, shelves_of, on, covered_in};
+ghost use Rattle.shelves.specs.Shelves.{place};
+ghost use Rattle.records.specs.Records.{shelves_of, on, covered_in};
 
-use crate::bits::{bit, bytes_for};
 use crate::shelf::Shelf;
 
 // Whether the one set of variables lies strictly inside the other.
@@ -15,51 +14,36 @@ pub fn strictly_inside(inner: u32, outer: u32) -> bool
     inner & outer == inner && inner != outer
 }
 
-// The number of the shelf of this mask, or how many shelves there are where it has none.
-pub fn place_of(records: &[Shelf], mask: u32) -> usize
-    ensures { (pool : List ℕ) → result ≡ place (shelves_of pool records.now) mask }
-{
-    for (i, shelf) in records.iter().enumerate() {
-        if shelf.frame.mask() == mask {
-            return i;
-        }
+// The shelves in memory, by their numbers, and the pool that has their bytes.
+#[derive(Clone, Copy)]
+pub struct Shelves<'r, 'p> {
+    pub records: &'r [Shelf],
+    pub pool: &'p [u8],
+}
+
+impl Shelves<'_, '_> {
+    // The number of the shelf of this mask.
+    pub fn place_of(&self, mask: u32) -> Option<usize>
+        ensures { (pool : List ℕ) → MatchOption result (place (shelves_of pool self.now.records.now) mask ≡ length self.now.records.now) (λ i. (i < length self.now.records.now) × (place (shelves_of pool self.now.records.now) mask ≡ i)) }
+    {
+        self.records
+            .iter()
+            .position(|shelf| shelf.frame.mask() == mask)
     }
-    records.len()
-}
 
-// Whether the code c is on the shelf.
-fn has_code(pool: &[u8], shelf: &Shelf, c: usize) -> bool
-    ensures { result ≡ bit_of (bytes_of pool.now shelf.now) c }
-{
-    let at = shelf.at;
-    if at > pool.len() {
-        return false;
+    // Whether the position is on the shelf, and the shelf's frame lies strictly inside this mask.
+    fn covers(&self, shelf: &Shelf, mask: u32, values: &[u16]) -> bool
+        ensures { result ≡ (strictly_inside shelf.now.frame.mask mask && on self.now.pool.now shelf.now (position values.now)) }
+    {
+        strictly_inside(shelf.frame.mask(), mask) && shelf.holds(self.pool, values)
     }
-    c / 8 < bytes_for(shelf.frame.size()) && bit(&pool[at..pool.len()], c)
-}
 
-// Whether the position with these values is on the shelf.
-pub fn is_on(pool: &[u8], shelf: &Shelf, values: &[u16]) -> bool
-    ensures { result ≡ on pool.now shelf.now (position values.now) }
-{
-    has_code(pool, shelf, shelf.frame.code(values))
-}
-
-// Whether the position is on the shelf, and the shelf's frame lies strictly inside this mask.
-fn covers(shelf: &Shelf, pool: &[u8], mask: u32, values: &[u16]) -> bool
-    ensures { result ≡ (strictly_inside shelf.now.frame.mask mask && on pool.now shelf.now (position values.now)) }
-{
-    strictly_inside(shelf.frame.mask(), mask) && is_on(pool, shelf, values)
-}
-
-// Whether the position is on some shelf whose frame lies strictly inside this mask.
-pub fn is_covered(records: &[Shelf], pool: &[u8], mask: u32, values: &[u16]) -> bool
-    ensures { result ≡ covered_in pool.now records.now mask (position values.now) }
-{
-    for shelf in records {
-        if covers(shelf, pool, mask, values) {
-            return true;
-        }
+    // Whether the position is on some shelf whose frame lies strictly inside this mask.
+    pub fn is_covered(&self, mask: u32, values: &[u16]) -> bool
+        ensures { result ≡ covered_in self.now.pool.now self.now.records.now mask (position values.now) }
+    {
+        self.records
+            .iter()
+            .any(|shelf| self.covers(shelf, mask, values))
     }
-    false
 }

@@ -5,15 +5,16 @@ use Rattle.model.specs.Orders.{First}
 use Rattle.frame.specs.Held.{size_in}
 use Rattle.shelves.specs.Filing.{State, opened}
 use Rattle.records.specs.Records.{shelves_of}
+use Rattle.checks.specs.declared.room.Memory.{Memory}
 use Rattle.checks.specs.declared.fault.RegisterFault.{RegisterFault}
 use Rattle.checks.specs.Faults.{register_turn}
-use Rattle.checks.specs.Wrong.{Memory, MemoryWrong}
+use Rattle.checks.specs.Wrong.{MemoryWrong}
 use Rattle.register.specs.declared.register.Register.{Register}
 
 abbrev pub state_of : Register → State
 state_of r = record {
-  n = r.n;
-  sizes = size_in r.sizes;
+  n = r.variables.n;
+  sizes = size_in r.variables.sizes;
   shelves = shelves_of r.pool.now (take r.count r.records.now);
   verdict = r.verdict;
 }

@@ -6,8 +6,8 @@ ghost use Rattle.register.specs.States.{state_of, memory_of, Opens, SameMemory};
 
 use crate::register::Register;
 use checks::fault::RegisterFault;
-use checks::room::check_memory;
-use frame::measure::sizes_of;
+use checks::room::Memory;
+use checks::same::Variables;
 use records::shelf::Shelf;
 use shelves::verdict::Verdict;
 use task::moves::MAX_VARIABLES;
@@ -16,7 +16,7 @@ use task::source::TaskSource;
 impl<'r, 'p> Register<'r, 'p> {
     // A register that holds this memory, and was not opened yet.
     pub fn new(records: &'r mut [Shelf], pool: &'p mut [u8]) -> Register<'r, 'p>
-        ensures empty { (result.n ≡ 0) × ((state_of result).shelves ≡ []) × (result.verdict ≡ Open) }
+        ensures empty { (result.variables.n ≡ 0) × ((state_of result).shelves ≡ []) × (result.verdict ≡ Open) }
         ensures records { result.records.now ≡ records.old }
         ensures pool { result.pool.now ≡ pool.old }
     {
@@ -25,20 +25,31 @@ impl<'r, 'p> Register<'r, 'p> {
             pool,
             count: 0,
             top: 0,
-            n: 0,
-            sizes: [1; MAX_VARIABLES],
+            variables: Variables {
+                n: 0,
+                sizes: [1; MAX_VARIABLES],
+            },
             verdict: Verdict::Open,
         }
     }
 }
 
 impl Register<'_, '_> {
+    fn memory(&self) -> Memory
+        ensures { result ≡ memory_of self.now }
+    {
+        Memory {
+            records: self.records.len(),
+            pool: self.pool.len(),
+        }
+    }
+
     // Starts anew on this task: with no shelf, and the verdict open. It writes none of the memory.
     pub fn open<S: TaskSource>(&mut self, source: &S) -> Result<(), RegisterFault>
         ensures opens { Opens (S.TaskSource.task source.now) (memory_of self.old) (state_of self.old) result (state_of self.new) }
         ensures memory { MatchResult result (λ _. SameMemory self.old self.new) (λ _. self.new ≡ self.old) }
     {
-        check_memory(self.records.len(), self.pool.len())?;
+        self.memory().check()?;
         self.start(source);
         Ok(())
     }
@@ -50,8 +61,7 @@ impl Register<'_, '_> {
         self.count = 0;
         self.top = 0;
         self.verdict = Verdict::Open;
-        self.n = source.variables();
-        self.sizes = sizes_of(source);
+        self.variables = Variables::of(source);
     }
 
     pub fn verdict(&self) -> Verdict

@@ -4,5 +4,5 @@ use Rattle.checks.proofs.closed.Claim.covers.Goals as goal
 
 pub returns : goal.returns
 returns c =
-    let s = c.args.self.now in
+    let s = c.args.self.now.shelves in
     c.is_covered.ensures ∙ (λ i. covered_in s.pool.now s.records.now (c.mask.ensures i) (c.values.ensures i))
