@@ -1,4 +1,4 @@
--- The task that a session holds, and what a line makes of it.
+-- What a line makes of what a session holds.
 use Rattle.std.specs.Prelude.{◌≡◌, ℕ, ◌≤◌, ◌⊎◌, List, [], ◌∷◌, ◌++◌, Some, None, Ok, Err, vec_items, Option, Result}
 use Rattle.model.specs.Tasks.{Task}
 use Rattle.model.specs.Orders.{First}
@@ -14,28 +14,11 @@ use Rattle.stack.specs.declared.layer.Layer.{Layer}
 use Rattle.stack.specs.declared.layer.Layer.TheVariants.{Keep, Join}
 use Rattle.stack.specs.Layers.{layerings, LayerWrong}
 use Rattle.command.specs.declared.kinds.LineFault.{LineFault}
-use Rattle.command.specs.Commands.{Saying, card, ring, leave_out, join, task, follow, image, frame, code, step}
-use Rattle.script.specs.declared.current.Current.{Current}
-use Rattle.script.specs.declared.current.Current.TheVariants as current
-
--- the card of some words, or the ring of so many places
-pub data Foot : Type 0 where
-  words : List ℕ → Foot
-  places : ℕ → Foot
-
-abbrev pub foot_task : Foot → Task
-foot_task (words ws) = cards.card ws
-foot_task (places n) = rings.ring n
-
--- no task yet, or a pile of layers over a foot
-pub data Held : Type 0 where
-  nothing : Held
-  pile : Foot → List Layer → Held
-
-abbrev pub held : Current → List Layer → Held
-held current.Nothing ls = nothing
-held (current.Card c) ls = pile (words (vec_items c.words)) ls
-held (current.Ring r) ls = pile (places r.n) ls
+use Rattle.command.specs.Words.{Words, BeforeComment}
+use Rattle.command.specs.Commands.{Saying, says, card, ring, leave_out, join, task, follow, image, frame, code, step}
+use Rattle.script.specs.declared.trouble.Trouble.{Trouble}
+use Rattle.script.specs.declared.trouble.Trouble.TheVariants.{Line, NoTask, Declined, Machine}
+use Rattle.script.specs.Held.{Held, nothing, pile, words, places, foot_task}
 
 -- a layer goes on top if it is accepted
 abbrev pub Tops : Held → Layer → Held → Type 0
@@ -62,3 +45,15 @@ abbrev pub After : Held → Option (Result Saying LineFault) → Held → Type 0
 After h (Some (Ok s)) h' = Becomes h s h'
 After h (Some (Err e)) h' = h' ≡ h
 After h None h' = h' ≡ h
+
+-- what the text of a line makes of it, by the words before its comment
+abbrev pub Does : List ℕ → Held → Held → Type 0
+Does text h h' = (before : List ℕ) × (ws : List (List ℕ)) × BeforeComment text before × Words before ws × After h (says ws) h'
+
+-- What holds after a line is P, also where the line was told to do nothing; where input, output or memory failed, it may be Q.
+abbrev pub CarriedOut : Result (Unit {0}) Trouble → Type 0 → Type 0 → Type 0
+CarriedOut (Ok _) P Q = P
+CarriedOut (Err (Line e)) P Q = P
+CarriedOut (Err NoTask) P Q = P
+CarriedOut (Err (Declined r)) P Q = P
+CarriedOut (Err (Machine e)) P Q = P ⊎ Q

@@ -1,26 +1,25 @@
 // What the commands about frames print.
-use crate::report::declined;
+use crate::trouble::{Trouble, declined};
 use frame::frame::Frame;
 use position::check::check_position;
-use std::io;
 use task::mask::contains;
-use task::refusal::Fault;
 use task::source::TaskSource;
 
-// The size of the frame, and its variables.
-pub fn show<R: Print, S: TaskSource>(rt: &R, source: &S, mask: u32) -> io::Result<()> {
+fn frame_of<S: TaskSource>(source: &S, mask: u32) -> Result<Frame, Trouble> {
     let mut frame = Frame::least();
-    if let Err(e) = frame.set(source, mask) {
-        return declined(rt, &e);
-    }
-    let size = frame.size();
+    frame.set(source, mask).map_err(declined)?;
+    Ok(frame)
+}
+
+// The size of the frame, and its variables.
+pub fn show<R: Print, S: TaskSource>(rt: &R, source: &S, mask: u32) -> Result<(), Trouble> {
+    let size = frame_of(source, mask)?.size();
     print!(rt; "frame: size {size}, variables")?;
-    for v in 0..source.variables() {
-        if contains(mask, v) {
-            print!(rt; " {v}")?;
-        }
+    for v in (0..source.variables()).filter(|v| contains(mask, *v)) {
+        print!(rt; " {v}")?;
     }
-    println!(rt; "")
+    println!(rt; "")?;
+    Ok(())
 }
 
 pub fn code<R: Print, S: TaskSource>(
@@ -28,16 +27,12 @@ pub fn code<R: Print, S: TaskSource>(
     source: &S,
     mask: u32,
     values: &[u16],
-) -> io::Result<()> {
-    let mut frame = Frame::least();
-    if let Err(e) = frame.set(source, mask) {
-        return declined(rt, &e);
-    }
-    if let Err(e) = check_position(source, values) {
-        return declined(rt, &e);
-    }
+) -> Result<(), Trouble> {
+    let frame = frame_of(source, mask)?;
+    check_position(source, values).map_err(declined)?;
     let code = frame.code(values);
-    println!(rt; "code: {code}")
+    println!(rt; "code: {code}")?;
+    Ok(())
 }
 
 pub fn step<R: Print, S: TaskSource>(
@@ -46,19 +41,17 @@ pub fn step<R: Print, S: TaskSource>(
     mask: u32,
     code: usize,
     operator: usize,
-) -> io::Result<()> {
-    let mut frame = Frame::least();
-    if let Err(e) = frame.set(source, mask) {
-        return declined(rt, &e);
-    }
+) -> Result<(), Trouble> {
+    let frame = frame_of(source, mask)?;
     if code >= frame.size() {
-        return println!(rt; "step: no such code");
+        println!(rt; "step: no such code")?;
+    } else if operator >= source.operators() {
+        println!(rt; "step: no such operator")?;
+    } else {
+        match frame.step(source, operator, code) {
+            Some(next) => println!(rt; "step: {next}")?,
+            None => println!(rt; "step: does not apply")?,
+        }
     }
-    if operator >= source.operators() {
-        return println!(rt; "step: no such operator");
-    }
-    match frame.step(source, operator, code) {
-        Some(next) => println!(rt; "step: {next}"),
-        None => println!(rt; "step: does not apply"),
-    }
+    Ok(())
 }

@@ -1,8 +1,9 @@
 // Scripts: what each command does, and what it prints.
 #![tactic(auto)]
 
-pub mod current;
 mod frames;
+mod pile;
 mod report;
 pub mod run;
 pub mod session;
+mod trouble;

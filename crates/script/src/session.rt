@@ -1,200 +1,144 @@
 // A session: the task that the commands are about, and what each line does.
-ghost use Rattle.std.specs.Prelude.{◌≡◌, ℕ, List, [], ◌∷◌, ◌++◌, IfOk, MatchResult, OnOk};
+ghost use Rattle.std.specs.Prelude.{◌≡◌, ◌⊎◌, IfOk, OnOk, OnErr};
 ghost use Rattle.model.specs.Card.{variables, operators};
-ghost use Rattle.model.specs.Orders.{First};
-ghost use Rattle.model.specs.Stack.{stacked};
-ghost use Rattle.reduction.specs.Faults.{reduction_turn};
-ghost use Rattle.reduction.specs.declared.fault.ReductionFault.{ReductionFault};
-ghost use Rattle.stack.specs.Layers.{layerings, LayerWrong};
-ghost use Rattle.command.specs.Words.{Words, BeforeComment};
-ghost use Rattle.command.specs.Commands.{says, saying_of, card, ring};
-ghost use Rattle.script.specs.Sessions.{nothing, held, Tops, Becomes, After};
+ghost use Rattle.command.specs.Commands.{saying_of, card, ring};
 
-use crate::current::Current;
+use crate::pile::Pile;
 use crate::report;
-use crate::report::Query;
+use crate::trouble::{Trouble, declined};
 use card::OwnedCard;
-use command::kinds::Command;
+use command::kinds::{Command, Query};
 use command::parse::parse;
 use layout::fault::CardFault;
-use reduction::fault::ReductionFault;
 use ring::Ring;
 use ring::fault::RingFault;
 use stack::layer::Layer;
 use stack::pile::Stack;
-use std::alloc::{AllocError, Global};
+use std::alloc::Global;
 use std::io;
+use std::marker::Model;
 use task::source::TaskSource;
 
 #[derive(Drop)]
 pub struct Session {
-    current: Current,
-    layers: Vec<Layer>,
+    heap: Global,
+    pile: Option<Pile>,
+}
+
+// The contracts see what the session holds: nothing, or layers over a card or a ring.
+impl Model for Session {
+    ghost use Rattle.script.specs.Held.{Held, held};
+
+    ghost Value = { Held };
+
+    ghost view = { λ s. held s.pile };
 }
 
 impl Session {
+    ghost use Rattle.script.specs.Held.{nothing};
+    ghost use Rattle.script.specs.Sessions.{Tops, Becomes, Does, CarriedOut};
+
     pub fn new(heap: Global) -> Self
-        ensures { held result.current result.layers.items ≡ nothing }
+        ensures { result ≡ nothing }
     {
-        Session {
-            current: Current::Nothing,
-            layers: Vec::new(heap),
+        Session { heap, pile: None }
+    }
+
+    // Carries out the line with this number, and prints what it did or why it did nothing.
+    pub fn line<R: Print>(&mut self, rt: &R, number: usize, text: &str) -> io::Result<()>
+        ensures carried_out { OnOk result (Does text.now self.old self.new) }
+        ensures failed { OnErr result (Does text.now self.old self.new ⊎ (self.new ≡ self.old)) }
+    {
+        match self.carry_out(rt, text) {
+            Ok(()) => Ok(()),
+            Err(Trouble::Line(fault)) => { println!(rt; "error: line {number}: {fault}") }
+            Err(Trouble::NoTask) => {
+                println!(rt; "error: line {number}: no task yet: give a card or a ring first")
+            }
+            Err(Trouble::Declined(refusal)) => println!(rt; "declined: {refusal}"),
+            Err(Trouble::Machine(e)) => Err(e),
         }
     }
 
-    // Carries out the line with this number, and prints what it did.
-    pub fn line<R: Print + AllocGlobal>(
-        &mut self,
-        rt: &R,
-        number: usize,
-        text: &str,
-    ) -> io::Result<()>
-        ensures { OnOk result ((before : List ℕ) × (ws : List (List ℕ)) × BeforeComment text.now before × Words before ws × After (held self.old.current self.old.layers.items) (says ws) (held self.new.current self.new.layers.items)) }
+    fn carry_out<R: Print>(&mut self, rt: &R, text: &str) -> Result<(), Trouble>
+        ensures { CarriedOut result (Does text.now self.old self.new) (self.new ≡ self.old) }
     {
-        match parse(rt.alloc(), text)? {
+        match parse(self.heap, text)? {
             None => Ok(()),
-            Some(Ok(command)) => self.perform(rt, number, command),
-            Some(Err(fault)) => report::line_fault(rt, number, fault),
+            Some(command) => self.perform(rt, command),
         }
     }
 
-    fn perform<R: Print + AllocGlobal>(
-        &mut self,
-        rt: &R,
-        number: usize,
-        command: Command,
-    ) -> io::Result<()>
-        ensures { OnOk result (Becomes (held self.old.current self.old.layers.items) (saying_of command) (held self.new.current self.new.layers.items)) }
+    fn perform<R: Print>(&mut self, rt: &R, command: Command) -> Result<(), Trouble>
+        ensures { CarriedOut result (Becomes self.old (saying_of command) self.new) (self.new ≡ self.old) }
     {
         match command {
-            Command::Card(words) => match self.take_card(words) {
-                Ok((n, m)) => println!(rt; "card: {n} variables, {m} operators"),
-                Err(e) => report::declined(rt, &e),
-            },
-            Command::Ring(n) => match self.take_ring(n as usize) {
-                Ok(()) => println!(rt; "ring: {n} variables, {n} operators"),
-                Err(e) => report::declined(rt, &e),
-            },
+            Command::Card(words) => {
+                let (n, m) = self.take_card(words).map_err(declined)?;
+                println!(rt; "card: {n} variables, {m} operators")?;
+            }
+            Command::Ring(n) => {
+                self.take_ring(n as usize).map_err(declined)?;
+                println!(rt; "ring: {n} variables, {n} operators")?;
+            }
             Command::LeaveOut(mask) => {
-                let answer = self.put(rt.alloc(), Layer::Keep(mask))?;
-                report::put(rt, number, "leave-out: kept", answer)
+                self.put(Layer::Keep(mask))?;
+                println!(rt; "leave-out: kept")?;
             }
             Command::Join {
                 variable,
                 low,
                 high,
             } => {
-                let layer = Layer::Join {
+                self.put(Layer::Join {
                     variable: variable as usize,
                     low,
                     high,
-                };
-                let answer = self.put(rt.alloc(), layer)?;
-                report::put(rt, number, "join: joined", answer)
+                })?;
+                println!(rt; "join: joined")?;
             }
-            Command::Task => self.ask(rt, number, Query::Show),
-            Command::Follow(operators) => self.ask(rt, number, Query::Follow(operators.as_slice())),
-            Command::Image { variable, value } => self.ask(
-                rt,
-                number,
-                Query::Image(variable as usize, value),
-            ),
-            Command::Frame(mask) => self.ask(rt, number, Query::Frame(mask)),
-            Command::Code { mask, values } => {
-                self.ask(rt, number, Query::Code(mask, values.as_slice()))
-            }
-            Command::Step {
-                mask,
-                code,
-                operator,
-            } => self.ask(
-                rt,
-                number,
-                Query::Step(mask, code as usize, operator as usize),
-            ),
+            Command::Ask(query) => self.ask(rt, &query)?,
         }
+        Ok(())
     }
 
     // Takes the words as the task, if they are a card, and answers how many variables and operators it has.
     fn take_card(&mut self, words: Vec<u16>) -> Result<(usize, usize), CardFault>
-        ensures becomes { Becomes (held self.old.current self.old.layers.items) (card words.items) (held self.new.current self.new.layers.items) }
+        ensures becomes { Becomes self.old (card words.items) self.new }
         ensures counts { IfOk result (λ c. c ≡ (variables words.items, operators words.items)) }
     {
         let card = OwnedCard::of(words)?;
         let counts = (card.variables(), card.operators());
-        self.current = Current::Card(card);
-        self.layers.clear();
+        self.pile = Some(Pile::Card(Stack::over(card, Vec::new(self.heap))));
         Ok(counts)
     }
 
     fn take_ring(&mut self, n: usize) -> Result<(), RingFault>
-        ensures { Becomes (held self.old.current self.old.layers.items) (ring n) (held self.new.current self.new.layers.items) }
+        ensures { Becomes self.old (ring n) self.new }
     {
         let mut ring = Ring::new();
         ring.set(n)?;
-        self.current = Current::Ring(ring);
-        self.layers.clear();
+        self.pile = Some(Pile::Ring(Stack::over(ring, Vec::new(self.heap))));
         Ok(())
     }
 
-    // Puts a layer on top of the task, if there is one, and answers whether it was accepted.
-    fn put(
-        &mut self,
-        heap: Global,
-        layer: Layer,
-    ) -> Result<Option<Result<(), ReductionFault>>, AllocError>
-        ensures { OnOk result (Tops (held self.old.current self.old.layers.items) layer (held self.new.current self.new.layers.items)) }
+    // Puts a layer on top of the task, if there is one.
+    fn put(&mut self, layer: Layer) -> Result<(), Trouble>
+        ensures { CarriedOut result (Tops self.old layer self.new) (self.new ≡ self.old) }
     {
-        let layers = Vec::from_slice(heap, self.layers.as_slice())?;
-        match &self.current {
-            Current::Nothing => Ok(None),
-            Current::Card(card) => {
-                let topped = top(card.view(), layers, layer)?;
-                Ok(Some(self.file(topped)))
-            }
-            Current::Ring(ring) => {
-                let topped = top(*ring, layers, layer)?;
-                Ok(Some(self.file(topped)))
-            }
+        match &mut self.pile {
+            None => Err(Trouble::NoTask),
+            Some(Pile::Card(pile)) => pile.put(layer)?.map_err(declined),
+            Some(Pile::Ring(pile)) => pile.put(layer)?.map_err(declined),
         }
-    }
-
-    // Takes the layers over, where they were accepted.
-    fn file(&mut self, topped: Result<Vec<Layer>, ReductionFault>) -> Result<(), ReductionFault>
-        ensures current { self.new.current ≡ self.old.current }
-        ensures layers { MatchResult topped (λ more. self.new.layers ≡ more) (λ _. self.new.layers ≡ self.old.layers) }
-    {
-        self.layers = topped?;
-        Ok(())
     }
 
     // Asks the task.
-    fn ask<R: Print + AllocGlobal>(
-        &self,
-        rt: &R,
-        number: usize,
-        query: Query<'_>,
-    ) -> io::Result<()> {
-        let layers = Vec::from_slice(rt.alloc(), self.layers.as_slice())?;
-        match &self.current {
-            Current::Nothing => report::no_task(rt, number),
-            Current::Card(card) => report::answer(rt, &Stack::over(card.view(), layers), query),
-            Current::Ring(ring) => report::answer(rt, &Stack::over(*ring, layers), query),
+    fn ask<R: Print>(&self, rt: &R, query: &Query) -> Result<(), Trouble> {
+        match &self.pile {
+            None => Err(Trouble::NoTask),
+            Some(Pile::Card(pile)) => report::answer(rt, pile, query),
+            Some(Pile::Ring(pile)) => report::answer(rt, pile, query),
         }
-    }
-}
-
-// The layers with one more on top, over this source.
-fn top<S: TaskSource + Drop>(
-    source: S,
-    layers: Vec<Layer>,
-    layer: Layer,
-) -> Result<Result<Vec<Layer>, ReductionFault>, AllocError>
-    ensures { IfOk result (λ answer. MatchResult answer (λ more. (more.items ≡ layers.items ++ (layer ∷ [])) × ((e : ReductionFault) → LayerWrong (stacked (layerings layers.items) (S.TaskSource.task source)) layer e → ⊥)) (λ e. First reduction_turn (LayerWrong (stacked (layerings layers.items) (S.TaskSource.task source)) layer) e)) }
-{
-    let mut stack = Stack::over(source, layers);
-    match stack.put(layer)? {
-        Ok(()) => Ok(Ok(stack.into_layers())),
-        Err(e) => Ok(Err(e)),
     }
 }
