@@ -32,10 +32,6 @@ not_accepted t os e w = (λ z. absurd (false≢true z), λ h. absurd (accepted_r
 
 -- ---- the first of what is wrong with following
 
--- of two faults that differ in their place alone
-lower : (a b x y : ℕ) → Earlier (a ∷ b ∷ x ∷ []) (a ∷ b ∷ y ∷ []) → x < y
-lower a b x y k = omega arith
-
 pub first_long : (t : Task) (os : List ℕ) → 16383 < length os → First plan_turn (FollowWrong t os) TooLong
 first_long t os h = (long h, go)
   where
@@ -49,7 +45,7 @@ first_unknown t os i fit l h low = (unknown i l h, go)
   where
     go : (d : PlanFault) → FollowWrong t os d → Earlier (plan_turn d) (plan_turn (NoSuchOperator i)) → ⊥
     go d (long x) k = omega arith
-    go d (unknown j m x) k = low j (lower 16 1 j i k) (m, x)
+    go d (unknown j m x) k = low j (omega arith) (m, x)
     go d (blocked before rest o p q m x) k = omega arith
 
 -- operators that apply in turn are not blocked before their end
@@ -74,7 +70,7 @@ module _ (t : Task) (os : List ℕ) (fit : length os ≤ 16383) (known : (i : �
       go : (d : PlanFault) → FollowWrong t os d → Earlier (plan_turn d) (plan_turn (DoesNotApply i)) → ⊥
       go d (long x) k = omega arith
       go d (unknown j m x) k = known j (m, x)
-      go d (blocked xs ys u r q m x) k = x (unblocked t (take i os) (drop (i + 1) os) xs ys (get_or os i 0) u t.start p r (sym split ∙ q) reached m (omega (arith, count, lower 17 0 (length xs) i k)))
+      go d (blocked xs ys u r q m x) k = x (unblocked t (take i os) (drop (i + 1) os) xs ys (get_or os i 0) u t.start p r (sym split ∙ q) reached m (omega (arith, count)))
 
 -- ---- one operator more
 
@@ -101,4 +97,4 @@ first_missed t os v q fit l h low = (inr (misses v q l h), go)
   where
     go : (d : PlanFault) → PlanWrong t os d → Earlier (plan_turn d) (plan_turn (MissesGoal v)) → ⊥
     go d (inl w) k = followed_right t os (fit, (q, l)) d w
-    go d (inr (misses u p m x)) k = low u (lower 18 0 u v k) (λ y. x (subst (λ r. Holds (t.goal u) (r u)) (leads_once t os t.start q p l m) y))
+    go d (inr (misses u p m x)) k = low u (omega arith) (λ y. x (subst (λ r. Holds (t.goal u) (r u)) (leads_once t os t.start q p l m) y))

@@ -16,17 +16,12 @@ pub fn contains(mask: u32, v: usize) -> bool
 pub fn kept(mask: u32, v: usize, value: Option<u16>) -> Option<u16>
     ensures { result ≡ (if has mask v then value else None) }
 {
-    if contains(mask, v) { value } else { None }
+    value.filter(|_| contains(mask, v))
 }
 
 // The lowest variable of the mask from n on.
 pub fn stray_variable(mask: u32, n: usize) -> Option<usize>
     ensures { Least (λ v. (n ≤ v) × (has mask v ≡ true)) result }
 {
-    for v in n..MAX_VARIABLES {
-        if contains(mask, v) {
-            return Some(v);
-        }
-    }
-    None
+    (n..MAX_VARIABLES).find(|v| contains(mask, *v))
 }

@@ -5,6 +5,7 @@ ghost use Rattle.model.specs.Orders.{Least};
 
 use crate::source::TaskSource;
 use crate::words::word;
+use std::array;
 
 // The most variables that a task has.
 pub const MAX_VARIABLES: usize = 32;
@@ -13,26 +14,17 @@ pub const MAX_VARIABLES: usize = 32;
 pub fn applies<S: TaskSource>(source: &S, o: usize, values: &[u16]) -> bool
     ensures { Decides result (Applies (S.TaskSource.task source.now) o (position values.now)) }
 {
-    for v in 0..source.variables() {
-        let Some(x) = source.needed(o, v) else {
-            continue;
-        };
-        if word(values, v) != x {
-            return false;
-        }
-    }
-    true
+    (0..source.variables()).all(|v| source.needed(o, v).is_none_or(|x| word(values, v) == x))
 }
 
 // Sets the values that the operator o makes.
 pub fn advance<S: TaskSource>(source: &S, o: usize, values: &mut [u16])
     ensures { values.new ≡ advanced (S.TaskSource.task source.now) o values.old }
 {
-    for v in 0..values.len() {
-        let Some(x) = source.made(o, v) else {
-            continue;
-        };
-        values[v] = x;
+    for (v, value) in values.iter_mut().enumerate() {
+        if let Some(x) = source.made(o, v) {
+            *value = x;
+        }
     }
 }
 
@@ -47,25 +39,12 @@ pub fn size_or_one<S: TaskSource>(source: &S, v: usize) -> u16
 pub fn start_position<S: TaskSource>(source: &S) -> [u16; MAX_VARIABLES]
     ensures { position result ≡ (S.TaskSource.task source.now).start }
 {
-    let mut values = [0; MAX_VARIABLES];
-    for v in 0..MAX_VARIABLES {
-        values[v] = source.start(v).unwrap_or(0);
-    }
-    values
+    array::from_fn(|v| source.start(v).unwrap_or(0))
 }
 
 // The lowest variable that misses its goal value, and none at a goal position.
 pub fn missed_goal<S: TaskSource>(source: &S, values: &[u16]) -> Option<usize>
     ensures { Least (λ v. Holds ((S.TaskSource.task source.now).goal v) (position values.now v) → ⊥) result }
 {
-    let n = source.variables();
-    for v in 0..n {
-        let Some(x) = source.goal(v) else {
-            continue;
-        };
-        if word(values, v) != x {
-            return Some(v);
-        }
-    }
-    None
+    (0..source.variables()).find(|v| source.goal(*v).is_some_and(|x| word(values, *v) != x))
 }

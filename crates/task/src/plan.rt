@@ -13,12 +13,7 @@ fn unknown_operator<S: TaskSource>(source: &S, operators: &[u16]) -> Option<usiz
     ensures { Least (λ i. (i < length operators.now) × ((S.TaskSource.task source.now).m ≤ slice_index operators.now i)) result }
 {
     let m = source.operators();
-    for i in 0..operators.len() {
-        if operators[i] as usize >= m {
-            return Some(i);
-        }
-    }
-    None
+    operators.iter().position(|o| *o as usize >= m)
 }
 
 // The position that the operators lead to from the start, each applied in its turn.
@@ -36,9 +31,8 @@ pub fn follow<S: TaskSource>(
         return Err(PlanFault::NoSuchOperator(i));
     }
     let mut values = start_position(source);
-    let steps = operators.len();
-    for i in 0..steps {
-        let o = operators[i] as usize;
+    for (i, operator) in operators.iter().enumerate() {
+        let o = *operator as usize;
         if !applies(source, o, &values) {
             return Err(PlanFault::DoesNotApply(i));
         }
@@ -47,23 +41,14 @@ pub fn follow<S: TaskSource>(
     Ok(values)
 }
 
-// What the check of a plan answers whose operators lead to these values.
-fn judge<S: TaskSource>(source: &S, operators: &[u16], values: &[u16]) -> Result<usize, PlanFault>
-    requires { (length operators.now ≤ 16383) × (Leads (S.TaskSource.task source.now) operators.now (S.TaskSource.task source.now).start (position values.now)) }
-    ensures judges { Judges (S.TaskSource.task source.now) operators.now result }
-    ensures exact { Decides (is_ok result) (Accepted (S.TaskSource.task source.now) operators.now) }
-{
-    match missed_goal(source, values) {
-        Some(v) => Err(PlanFault::MissesGoal(v)),
-        None => Ok(operators.len()),
-    }
-}
-
 // Accepts exactly the plans of at most 16,383 operators, and answers the plan's length.
 pub fn check_plan<S: TaskSource>(source: &S, operators: &[u16]) -> Result<usize, PlanFault>
     ensures judges { Judges (S.TaskSource.task source.now) operators.now result }
     ensures exact { Decides (is_ok result) (Accepted (S.TaskSource.task source.now) operators.now) }
 {
     let values = follow(source, operators)?;
-    judge(source, operators, &values)
+    match missed_goal(source, &values) {
+        Some(v) => Err(PlanFault::MissesGoal(v)),
+        None => Ok(operators.len()),
+    }
 }

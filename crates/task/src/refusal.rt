@@ -37,14 +37,13 @@ impl fmt::Display for Refusal {
     ghost output = { λ x. Some (refusal_text x) };
 
     fn fmt<W: fmt::Write>(&self, f: &mut fmt::Formatter<W>) -> fmt::Result {
-        let number = self.number;
-        let layer = self.layer;
         let (p, q) = self.place;
-        write!(f, "{number} {layer} at ({p}, {q})")
+        write!(f, "{} {} at ({p}, {q})", self.number, self.layer)
     }
 }
 
 // What can be wrong with a call. Each kind of fault has one definition that gives the number, layer and place of each of its cases.
+// A trait of its own, and not `From`: what takes any fault bounds by it, reads the fault and leaves it to the caller.
 pub trait Fault {
     ghost told: { Self → Refusal };
 

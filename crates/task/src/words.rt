@@ -5,5 +5,5 @@ ghost use Rattle.std.specs.Prelude.{◌≡◌, slice_index};
 pub fn word(words: &[u16], i: usize) -> u16
     ensures { result ≡ slice_index words.now i }
 {
-    if i < words.len() { words[i] } else { 0 }
+    words.get(i).copied().unwrap_or(0)
 }

@@ -1,13 +1,20 @@
-use Rattle.std.proofs.Common.{⊎_elim, arith}
-use Rattle.std.proofs.lemmas.Bool.{both_ways, cases_lt}
+use Rattle.std.proofs.Common.{◌≡◌, ℕ, ◌<◌, ◌≤◌, true, Some, None, Option, rules}
+use borrow.Author.Tests.{tests}
+use Rattle.std.specs.Option.{MatchOption}
+use Rattle.std.proofs.lemmas.Iterator.{first_from_Range}
 use Rattle.model.specs.LeaveOut.{has}
-use Rattle.model.proofs.Masks.{has_beyond}
+use Rattle.model.specs.Orders.{Least}
+use Rattle.model.proofs.Masks.{has_below}
 use Rattle.task.proofs.mask.stray_variable.Goals as goal
 
+-- where P holds of nothing from `end` on, the first in a range that ends there is the first of all from its start on
+first_of_all : (P : ℕ → Type 0) (n end : ℕ) → ((v : ℕ) → P v → v < end) → (r : Option ℕ)
+    → MatchOption r ((v : ℕ) → n ≤ v → v < end → P v → ⊥) (λ i. (n ≤ i) × (i < end) × P i × ((v : ℕ) → n ≤ v → v < i → P v → ⊥)) → Least (λ v. (n ≤ v) × P v) r
+first_of_all P n end low None h = λ v w. h v w.0 (low v w.1) w.1
+first_of_all P n end low (Some i) h = ((h.0, h.2), λ v l w. h.3 v w.0 l w.1)
+
 pub returns : goal.returns
-returns c v w =
+returns c =
     let mask = c.args.mask in
-    ⊎_elim
-    (λ h. both_ways (has mask v) (c.loop-v.invariant v w.0 (omega arith)) w.1)
-    (λ h. both_ways (has mask v) (has_beyond mask 32 v c.ranges.mask.fits h) w.1)
-    (cases_lt v 32)
+    first_of_all (λ v. has mask v ≡ true) c.args.n 32 (λ v h. has_below mask 32 v c.ranges.mask.fits h) c.find.result
+    (first_from_Range _ _ _ _ (λ v. has mask v ≡ true) (λ v. has mask v ≡ true → ⊥) c.find.ensures.ran (λ x q k. search (rules, tests)) (λ x q k. search (rules, tests)))

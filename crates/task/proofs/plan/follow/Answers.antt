@@ -1,7 +1,6 @@
-use Rattle.std.proofs.Common.{◌+◌, ◌<◌, ◌≤◌, length, get_or, take, sym, refl, ap, ◌∙◌, subst, ⊎_elim, arith}
-use Rattle.std.proofs.lemmas.Bool.{false≢true, cases_lt}
+use Rattle.std.proofs.Common.{◌<◌, ◌≤◌, length, get_or, refl, subst, arith}
+use Rattle.std.proofs.lemmas.Bool.{false≢true}
 use Rattle.std.proofs.lemmas.List.{take_all}
-use Rattle.std.proofs.lemmas.List.FromFn.{length-map-range_with_len}
 use Rattle.model.specs.Tasks.{Leads, position}
 use Rattle.task.proofs.Planning.{not_followed, first_long, first_unknown, first_blocked, follow_more}
 use Rattle.task.proofs.plan.follow.Goals as goal
@@ -24,7 +23,7 @@ pub returns-then-not-applies : goal.returns-then-not-applies
 returns-then-not-applies g c =
     let t = g.S.TaskSource.task c.args.source.now in
     let os = c.args.operators.now in
-    let f = first_blocked t os c.if-operators-gt-MAX_PLAN.false c.in_default.ensures c.loop-i.i (position c.loop-i.values) c.loop-i-test.true c.loop-i.invariant.1 (λ a. false≢true (c.if-not-applies.ensures.1 a)) in
+    let f = first_blocked t os c.if-operators-gt-MAX_PLAN.false c.in_default.ensures c.loop-i.i (position c.loop-i.values) c.loop-i-test.true c.loop-i.invariant (λ a. false≢true (c.if-not-applies.ensures.1 a)) in
     record { reaches = f; exact = not_followed t os _ f.0 }
 
 pub loop-i-preserved : goal.loop-i-preserved
@@ -34,16 +33,13 @@ loop-i-preserved g c =
     let law = g.S.TaskSource.lawful s in
     let os = c.args.operators.now in
     let i = c.loop-i.i in
-    let known : get_or os i 0 < t.m = ⊎_elim (λ l. l) (λ l. absurd (c.in_default.ensures i (c.loop-i-test.true, l))) (cases_lt (get_or os i 0) t.m) in
-    let long : t.n ≤ length c.loop-i.values = omega (arith, law.variables.1, c.loop-i.invariant.0) in
-    let more = follow_more t law os c.loop-i.values i c.loop-i-test.true known long c.loop-i.invariant.1 (c.if-not-applies.ensures.0 refl) in (
-      ap length c.advance.ensures ∙ length-map-range_with_len _ 0 _ ∙ c.loop-i.invariant.0,
-      subst (λ xs. Leads t (take (i + 1) os) t.start (position xs)) (sym c.advance.ensures) more,
-    )
+    let known : get_or os i 0 < t.m = grind (arith, c.in_default.ensures i) in
+    let long : t.n ≤ length c.loop-i.values = omega (arith, law.variables.1, c.if-not-applies.array_long) in
+    rw c.advance.ensures (follow_more t law os c.loop-i.values i c.loop-i-test.true known long c.loop-i.invariant (c.if-not-applies.ensures.0 refl))
 
 pub returns : goal.returns
 returns g c =
     let t = g.S.TaskSource.task c.args.source.now in
     let os = c.args.operators.now in
-    let all = subst (λ xs. Leads t xs t.start (position c.loop-i.values)) (take_all c.loop-i.i os c.loop-i-test.false) c.loop-i.invariant.1 in
+    let all = subst (λ xs. Leads t xs t.start (position c.loop-i.values)) (take_all c.loop-i.i os c.loop-i-test.false) c.loop-i.invariant in
     record { reaches = all; exact = (λ e. (c.if-operators-gt-MAX_PLAN.false, (position c.loop-i.values, all)), λ h. refl) }

@@ -1,8 +1,8 @@
-use Rattle.std.proofs.Common.{◌≡◌, length, take}
+use Rattle.std.proofs.Common.{take}
 use Rattle.model.specs.Tasks.{Leads, position}
 use Rattle.task.proofs.plan.follow.Given as goal
 
 abbrev pub invariant-loop-i : goal.invariant-loop-i
 invariant-loop-i g l =
     let t = g.S.TaskSource.task l.source in
-    (length l.values ≡ 32) × Leads t (take l.i l.operators) t.start (position l.values)
+    Leads t (take l.i l.operators) t.start (position l.values)
