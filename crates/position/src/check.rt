@@ -1,5 +1,4 @@
 // Whether a list of values is a position.
-ghost use Rattle.std.specs.Prelude.{◌≡◌};
 ghost use Rattle.model.specs.Orders.{Least};
 ghost use Rattle.position.specs.Wrong.{Stray, Checked};
 

@@ -1,4 +1,4 @@
-// Sets of variables as masks of 32 bits: bit v stands for the variable v.
+// Sets of variables as masks of 32 bits: bit v stands for the variable v. A plain number, since callers hand it over as one.
 ghost use Rattle.std.specs.Prelude.{◌≡◌, ◌≤◌, true, if◌then◌else◌, None};
 ghost use Rattle.model.specs.Orders.{Least};
 ghost use Rattle.model.specs.LeaveOut.{has};

@@ -1,4 +1,5 @@
-// What operators do to a position, which is a slice of values: one for each variable, and 0 past its end.
+// What operators do to a position, which is a slice of values: one for each variable, and 0 past its end. A slice, and no type of its own,
+// so that no call asks anything of the list that it is given.
 ghost use Rattle.std.specs.Prelude.{◌≡◌, Decides};
 ghost use Rattle.model.specs.Tasks.{Applies, Holds, position, advanced};
 ghost use Rattle.model.specs.Orders.{Least};

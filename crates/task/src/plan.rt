@@ -1,6 +1,5 @@
 // Following a list of operators from the start, and whether it is a plan.
-ghost use Rattle.std.specs.Prelude.{◌≡◌, ◌<◌, ◌≤◌, length, is_ok, Decides, slice_index};
-ghost use Rattle.model.specs.Tasks.{Leads, position};
+ghost use Rattle.std.specs.Prelude.{◌<◌, ◌≤◌, length, is_ok, Decides, slice_index};
 ghost use Rattle.model.specs.Orders.{Least};
 ghost use Rattle.task.specs.Plans.{Follows, Followed, Judges, Accepted};
 

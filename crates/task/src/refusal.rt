@@ -26,6 +26,7 @@ impl fmt::Display for Layer {
     }
 }
 
+// The rules number what can be refused, and scripts print the number.
 #[derive(Clone, Copy, PartialEq, Eq, Debug)]
 pub struct Refusal {
     pub number: u16,
