@@ -1,8 +1,9 @@
 -- What is wrong with a list of operators, and what of it is tried first.
-use Rattle.std.proofs.Common.{◌≡◌, ℕ, ◌+◌, ◌<◌, ◌≤◌, false, List, [], ◌∷◌, ◌++◌, length, get_or, take, drop, Decides, sym, ap, ◌∙◌, subst, inl, inr, arith, lit<, lit≤}
+use Rattle.std.proofs.Common.{◌≡◌, ℕ, ◌+◌, ◌<◌, ◌≤◌, false, List, ◌∷◌, ◌++◌, length, get_or, take, drop, Decides, sym, refl, ap, ◌∙◌, subst, inl, inr, arith, lit<, lit≤}
 use Rattle.std.proofs.lemmas.Bool.{false≢true}
-use Rattle.std.proofs.lemmas.List.{take-append-drop, take_more, drop_more, length-take-le}
-use Rattle.model.specs.Tasks.{Task, Position, Lawful, Holds, Applies, after, Leads, position, advanced}
+use Rattle.std.proofs.lemmas.List.{take-append-drop, take-take, take_at, take_more, drop_more, length-take-le, get_or-take}
+use Rattle.std.proofs.Math.Seq.{get_or-append_seam}
+use Rattle.model.specs.Tasks.{Task, Position, Lawful, Holds, Applies, Leads, position, advanced}
 use Rattle.model.specs.Orders.{Earlier, First}
 use Rattle.model.proofs.Leading.{leads_once, leads_known, leads_more, leads_next}
 use Rattle.model.proofs.Positions.{advanced_position}
@@ -48,29 +49,30 @@ first_unknown t os i fit l h low = (unknown i l h, go)
     go d (unknown j m x) k = low j (omega arith) (m, x)
     go d (blocked before rest o p q m x) k = omega arith
 
+-- a list about one of its places
+parted : (xs : List ℕ) (i : ℕ) → i < length xs → xs ≡ take i xs ++ (get_or xs i 0 ∷ drop (i + 1) xs)
+parted xs i l = sym (take-append-drop i xs) ∙ ap (λ ys. take i xs ++ ys) (drop_more xs i 0 l)
+
 -- operators that apply in turn are not blocked before their end
-unblocked : (t : Task) (before rest xs ys : List ℕ) (o u : ℕ) (p q r : Position) → before ++ (o ∷ rest) ≡ xs ++ (u ∷ ys) → Leads t before p q → Leads t xs p r → length xs < length before → Applies t u r
-unblocked t [] rest xs ys o u p q r e l m h = absurd (omega arith)
-unblocked t (b ∷ before) rest [] ys o u p q r e l m h = let same : b ≡ u = cc in subst (λ x. Applies t x r) same (subst (Applies t b) m l.1)
-unblocked t (b ∷ before) rest (x ∷ xs) ys o u p q r e l m h =
-    let same : b ≡ x = cc in
-    let more : before ++ (o ∷ rest) ≡ xs ++ (u ∷ ys) = cc in
-    unblocked t before rest xs ys o u (after t b p) q r more l.2 (subst (λ z. Leads t xs (after t z p) r) (sym same) m.2) (omega arith)
+unblocked : (t : Task) (xs ys : List ℕ) (u i : ℕ) (p q r : Position) → length xs < i → i ≤ length (xs ++ (u ∷ ys)) → Leads t (take i (xs ++ (u ∷ ys))) p q → Leads t xs p r → Applies t u r
+unblocked t xs ys u i p q r h fit l m =
+    let os = xs ++ (u ∷ ys) in
+    let j = length xs in
+    let le : j ≤ i = omega arith in
+    let e = rw (take-take j i os le, take_at xs (u ∷ ys) j refl, get_or-take i os j 0 h, get_or-append_seam xs u ys 0) at (parted (take i os) j (omega (arith, length-take-le i os fit))) in
+    leads_next t xs (drop (j + 1) (take i os)) u p q r (subst (λ zs. Leads t zs p q) e l) m
 
 module _ (t : Task) (os : List ℕ) (fit : length os ≤ 16383) (known : (i : ℕ) → (i < length os) × (t.m ≤ get_or os i 0) → ⊥) where
   pub first_blocked : (i : ℕ) (p : Position) → i < length os → Leads t (take i os) t.start p → (Applies t (get_or os i 0) p → ⊥) → First plan_turn (FollowWrong t os) (DoesNotApply i)
-  first_blocked i p l reached stuck = (subst (λ j. FollowWrong t os (DoesNotApply j)) count (blocked (take i os) (drop (i + 1) os) (get_or os i 0) p split reached stuck), go)
+  first_blocked i p l reached stuck = (subst (λ j. FollowWrong t os (DoesNotApply j)) count (blocked (take i os) (drop (i + 1) os) (get_or os i 0) p (parted os i l) reached stuck), go)
     where
       count : length (take i os) ≡ i
       count = length-take-le i os (omega arith)
 
-      split : os ≡ take i os ++ (get_or os i 0 ∷ drop (i + 1) os)
-      split = sym (take-append-drop i os) ∙ ap (λ xs. take i os ++ xs) (drop_more os i 0 l)
-
       go : (d : PlanFault) → FollowWrong t os d → Earlier (plan_turn d) (plan_turn (DoesNotApply i)) → ⊥
       go d (long x) k = omega arith
       go d (unknown j m x) k = known j (m, x)
-      go d (blocked xs ys u r q m x) k = x (unblocked t (take i os) (drop (i + 1) os) xs ys (get_or os i 0) u t.start p r (sym split ∙ q) reached m (omega (arith, count)))
+      go d (blocked xs ys u r q m x) k = x (unblocked t xs ys u i t.start p r (omega arith) (subst (λ zs. i ≤ length zs) q (omega arith)) (subst (λ zs. Leads t (take i zs) t.start p) q reached) m)
 
 -- ---- one operator more
 
