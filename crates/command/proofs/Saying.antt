@@ -1,12 +1,13 @@
 -- What a line says, from its verb and its numbers.
-use Rattle.std.proofs.Common.{◌≡◌, ℕ, List, Some, None, Ok, Err, Option, Result}
+use Rattle.std.proofs.Common.{◌≡◌, ℕ, List, ◌∷◌, Some, None, Ok, Err, Option, Result, ap, subst}
 use Rattle.std.specs.Option.{ok_or}
 use Rattle.command.specs.declared.kinds.Verb.{Verb}
 use Rattle.command.specs.declared.kinds.LineFault.{LineFault}
 use Rattle.command.specs.declared.kinds.LineFault.TheVariants.{NoCommand, NoNumber}
 use Rattle.command.specs.declared.kinds.ParseError.{ParseError}
 use Rattle.command.specs.declared.kinds.ParseError.TheVariants.{Line, OutOfMemory}
-use Rattle.command.specs.Commands.{taking, with_numbers}
+use Rattle.command.specs.Words.{FirstWord, Words, BeforeComment, numerals}
+use Rattle.command.specs.Commands.{Saying, verb_of, taking, with_numbers, says}
 use Rattle.command.specs.Faults.{IfMemorySuffices}
 
 -- what is said of a fault where memory suffices, from what was said of it
@@ -18,19 +19,16 @@ pub no_command : (v : Option Verb) (xs : Option (List ℕ)) (fault : LineFault) 
 no_command None xs fault e = cc
 no_command (Some v) xs fault e = absurd (cc)
 
-module _ (v : Option Verb) (xs : Option (List ℕ)) (verb : Verb) (known : Ok verb ≡ ok_or v NoCommand) where
-  pub no_number : (fault : LineFault) → Err fault ≡ ok_or xs NoNumber → Err fault ≡ with_numbers v xs
-  no_number fault e = go v xs known e
-    where
-      go : (v : Option Verb) (xs : Option (List ℕ)) → Ok verb ≡ ok_or v NoCommand → Err fault ≡ ok_or xs NoNumber → Err fault ≡ with_numbers v xs
-      go None xs k e = absurd (cc)
-      go (Some w) None k e = cc
-      go (Some w) (Some ys) k e = absurd (cc)
+pub no_number : (v : Option Verb) (xs : Option (List ℕ)) (verb : Verb) (fault : LineFault) → Ok verb ≡ ok_or v NoCommand → Err fault ≡ ok_or xs NoNumber → Err fault ≡ with_numbers v xs
+no_number None xs verb fault k e = absurd (cc)
+no_number (Some w) None verb fault k e = cc
+no_number (Some w) (Some ys) verb fault k e = absurd (cc)
 
-  pub taken : (found : List ℕ) → Ok found ≡ ok_or xs NoNumber → taking verb found ≡ with_numbers v xs
-  taken found e = go v xs known e
-    where
-      go : (v : Option Verb) (xs : Option (List ℕ)) → Ok verb ≡ ok_or v NoCommand → Ok found ≡ ok_or xs NoNumber → taking verb found ≡ with_numbers v xs
-      go None xs k e = absurd (cc)
-      go (Some w) None k e = absurd (cc)
-      go (Some w) (Some ys) k e = cc
+pub taken : (v : Option Verb) (xs : Option (List ℕ)) (verb : Verb) (found : List ℕ) → Ok verb ≡ ok_or v NoCommand → Ok found ≡ ok_or xs NoNumber → taking verb found ≡ with_numbers v xs
+taken None xs verb found k e = absurd (cc)
+taken (Some w) None verb found k e = absurd (cc)
+taken (Some w) (Some ys) verb found k e = cc
+
+-- the answer for a line whose first word is the name, and whose other words are ws
+pub line_says : {line text start name rest : List ℕ} → BeforeComment line text → start ≡ text → FirstWord start name rest → (ws : List (List ℕ)) → Words rest ws → (answer : Result Saying LineFault) → answer ≡ with_numbers (verb_of name) (numerals 32 ws) → (before : List ℕ) × (all : List (List ℕ)) × BeforeComment line before × Words before all × (Some answer ≡ says all)
+line_says {text} {name} {rest} before begins first ws words answer e = (text, name ∷ ws, before, (rest, subst (λ bs. FirstWord bs name rest) begins first, words), ap Some e)

@@ -84,9 +84,6 @@ pub record Sofar (text rest found : List ℕ) : Type 0 where
   pub numbers : numerals 32 seen ≡ Some found
   pub utf8 : IsUtf8 rest
 
-pub sofar_none : (text : List ℕ) → IsUtf8 text → Sofar text text []
-sofar_none text u = record { seen = []; split = λ ws h. h; numbers = refl; utf8 = u }
-
 module _ {text rest found : List ℕ} (old : Sofar text rest found) where
   pub sofar_all : Words rest [] → (ws : List (List ℕ)) × Words text ws × (numerals 32 ws ≡ Some found)
   sofar_all none = (old.seen, subst (Words text) (append-nil old.seen) (old.split [] none), old.numbers)

@@ -15,10 +15,7 @@ use std::alloc::Global;
 fn before_comment(line: &str) -> &str
     ensures { BeforeComment line.now result.now }
 {
-    match line.split_once('#') {
-        Some((text, _)) => text,
-        None => line,
-    }
+    line.split_once('#').map_or(line, |(text, _)| text)
 }
 
 // The command of a line, and none where the line is blank or only a comment.

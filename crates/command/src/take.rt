@@ -8,19 +8,19 @@ ghost use Rattle.command.specs.Faults.{IfMemorySuffices};
 use crate::kinds::{Command, LineFault, ParseError, Query, Verb};
 use std::alloc::Global;
 
-// The number as a word of 16 bits.
-fn word(number: u32) -> Result<u16, LineFault>
+// The number in 16 bits, if it fits.
+fn narrow(number: u32) -> Result<u16, LineFault>
     ensures { result ≡ (if narrow number then Ok number else Err NoNumber) }
 {
     u16::try_from(number).map_err(|_| LineFault::NoNumber)
 }
 
-fn words(heap: Global, numbers: &[u32]) -> Result<Vec<u16>, ParseError>
+fn narrowed(heap: Global, numbers: &[u32]) -> Result<Vec<u16>, ParseError>
     ensures { IfMemorySuffices result (λ found. result_map_both vec_items (λ fault. fault) found ≡ (if all_narrow numbers.now then Ok numbers.now else Err NoNumber)) }
 {
     let mut found = Vec::new(heap);
     for x in numbers {
-        found.push(word(*x)?)?;
+        found.push(narrow(*x)?)?;
     }
     Ok(found)
 }
@@ -30,24 +30,24 @@ pub(crate) fn command(heap: Global, verb: Verb, numbers: &[u32]) -> Result<Comma
     ensures { IfMemorySuffices result (λ answer. meant answer ≡ taking verb numbers.now) }
 {
     Ok(match (verb, numbers) {
-        (Verb::Card, numbers) => Command::Card(words(heap, numbers)?),
+        (Verb::Card, numbers) => Command::Card(narrowed(heap, numbers)?),
         (Verb::Ring, [n]) => Command::Ring(*n),
         (Verb::LeaveOut, [mask]) => Command::LeaveOut(*mask),
         (Verb::Join, [variable, low, high]) => Command::Join {
             variable: *variable,
-            low: word(*low)?,
-            high: word(*high)?,
+            low: narrow(*low)?,
+            high: narrow(*high)?,
         },
         (Verb::Task, []) => Command::Ask(Query::Task),
-        (Verb::Follow, numbers) => Command::Ask(Query::Follow(words(heap, numbers)?)),
+        (Verb::Follow, numbers) => Command::Ask(Query::Follow(narrowed(heap, numbers)?)),
         (Verb::Image, [variable, value]) => Command::Ask(Query::Image {
             variable: *variable,
-            value: word(*value)?,
+            value: narrow(*value)?,
         }),
         (Verb::Frame, [mask]) => Command::Ask(Query::Frame(*mask)),
         (Verb::Code, [mask, values @ ..]) => Command::Ask(Query::Code {
             mask: *mask,
-            values: words(heap, values)?,
+            values: narrowed(heap, values)?,
         }),
         (Verb::Step, [mask, code, operator]) => Command::Ask(Query::Step {
             mask: *mask,
