@@ -1,10 +1,9 @@
 -- Bits of bytes: what setting one changes, and a loop that adds the members of a set.
-use Rattle.std.proofs.Common.{◌≡◌, ℕ, ◌+◌, ◌*◌, ◌/◌, ◌%◌, ◌^◌, ◌<◌, Bool, true, false, cond, ◌&&◌, ◌||◌, eqb, ltb, not, ◌≢◌, ◌⊎◌, List, length, get_or, set, sym, ap, ◌∙◌, ⊎_elim, add-one, ap₂, zero-add, arith, get_or-set_other, get_or-set_same}
+use Rattle.std.proofs.Common.{◌≡◌, ℕ, ◌+◌, ◌*◌, ◌/◌, ◌%◌, ◌^◌, ◌<◌, Bool, true, false, cond, ◌&&◌, ◌||◌, eqb, ltb, not, ◌⊎◌, List, length, get_or, set, sym, ap, ◌∙◌, ⊎_elim, add-one, ap₂, zero-add, arith, get_or-set_other, get_or-set_same}
 use lib.Bits.{bit_or}
 use mir.Syntax.{w8}
-use Rattle.std.specs.Int.{bit_at}
 use Rattle.std.proofs.Math.Bool.{and-false}
-use Rattle.std.proofs.lemmas.Bool.{cases_eq, cases_Bool, eq-eqb, ne_eqb, le-ltb, and_left}
+use Rattle.std.proofs.lemmas.Bool.{cases_eq, cases_Bool, le-ltb, and_left}
 use Rattle.std.proofs.lemmas.Nat.Bits.{bit_at_set_same, bit_at_set_other}
 use Rattle.std.proofs.lemmas.Bool.Decides.{nat_tests}
 use Rattle.shelves.specs.Shelves.{bit_of}
@@ -14,19 +13,11 @@ pub put_bit : (xs : List ℕ) (c d : ℕ) → c / 8 < length xs → bit_of (set 
 put_bit xs c d h =
     let a = get_or xs (c / 8) 0 in
     let v = bit_or a (1 * 2 ^ (c % 8) % 2 ^ 8) in
-    let ys = set xs (c / 8) v in
-    ⊎_elim
-    (λ e. ap (bit_of ys) e ∙ eq-eqb _ 1 (ap (λ b. bit_at b (c % 8)) (get_or-set_same xs (c / 8) v 0 h) ∙ bit_at_set_same w8 a (c % 8) (omega arith)) ∙ sym (ap (λ t. t || bit_of xs d) (eq-eqb d c e)))
-    (λ n. ⊎_elim
-    (λ e.
-    let ne : d % 8 ≢ c % 8 = λ q. n (omega arith) in
-    ap (λ b. eqb (bit_at b (d % 8)) 1) (ap (λ i. get_or ys i 0) e ∙ get_or-set_same xs (c / 8) v 0 h)
-    ∙ ap (λ b. eqb b 1) (bit_at_set_other w8 a (c % 8) (omega arith) (d % 8) ne)
-    ∙ ap (λ i. eqb (bit_at (get_or xs i 0) (d % 8)) 1) (sym e)
-    ∙ sym (ap (λ t. t || bit_of xs d) (ne_eqb d c n)))
-    (λ m. ap (λ b. eqb (bit_at b (d % 8)) 1) (get_or-set_other xs (c / 8) (d / 8) v 0 m) ∙ sym (ap (λ t. t || bit_of xs d) (ne_eqb d c n)))
-    (cases_eq (d / 8) (c / 8)))
-    (cases_eq d c)
+    let same = bit_at_set_same w8 a (c % 8) (omega arith) in
+    let other = bit_at_set_other w8 a (c % 8) (omega arith) (d % 8) in
+    let written = get_or-set_same xs (c / 8) v 0 h in
+    let kept = get_or-set_other xs (c / 8) (d / 8) v 0 in
+    ⊎_elim (λ e. rw e (grind (arith, nat_tests))) (λ n. let o = cases_eq (d / 8) (c / 8) in let p = cases_eq (d % 8) (c % 8) in grind (arith, nat_tests)) (cases_eq d c)
 
 -- ---- the bytes ys are xs with the members of a set below c
 

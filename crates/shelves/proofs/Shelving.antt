@@ -1,6 +1,7 @@
 -- Which shelf a position is on, which shelf a frame has, and what holds of each.
-use Rattle.std.proofs.Common.{◌≡◌, ℕ, zero, suc, ◌<◌, Bool, true, false, cond, not, ◌&&◌, ◌||◌, T, eqb, List, [], ◌∷◌, length, Some, None, Option, refl, ap, subst, ⊎_elim, arith, T_not}
+use Rattle.std.proofs.Common.{◌≡◌, ℕ, zero, suc, ◌<◌, Bool, true, false, cond, not, ◌&&◌, ◌||◌, T, eqb, List, [], ◌∷◌, length, Some, None, Option, sym, refl, ap, subst, ⊎_elim, arith, T_not}
 use lib.Dec.{eqb_refl}
+use Rattle.std.proofs.lemmas.Bool.{cases_eq, eq-eqb, ne_eqb}
 use Rattle.model.specs.Tasks.{Task, Position}
 use Rattle.model.specs.Reductions.{image_of}
 use Rattle.model.specs.LeaveOut.{kept}
@@ -69,6 +70,10 @@ each_held P t p (s ∷ ss) e h = ⊎_elim (λ a. (s, e.0, a)) (λ a. each_held P
 
 -- ---- the shelf of a frame
 
+-- a fact about the test whether the shelf is of the frame f, in both cases
+pub by_frame : (s : Shelf) (f : ℕ) (Q : Bool → Type 0) → (s.frame ≡ f → Q true) → ((s.frame ≡ f → ⊥) → Q false) → Q (eqb s.frame f)
+by_frame s f Q same other = ⊎_elim (λ e. subst Q (sym (eq-eqb s.frame f e)) (same e)) (λ n. subst Q (sym (ne_eqb s.frame f n)) (other n)) (cases_eq s.frame f)
+
 pub each_has_shelf : (ss : List Shelf) → Each (λ r. T (has_shelf ss r.frame)) ss
 each_has_shelf [] = tt
 each_has_shelf (s ∷ ss) = (
@@ -81,8 +86,4 @@ no_shelf ss f h = each_weaker (λ r. T (has_shelf ss r.frame)) (λ r. r.frame �
 
 pub place_below : (ss : List Shelf) (f : ℕ) → T (has_shelf ss f) → place ss f < length ss
 place_below [] f h = absurd h
-place_below (s ∷ ss) f h = go (eqb s.frame f) h (place_below ss f)
-  where
-    go : (b : Bool) → T (b || has_shelf ss f) → (T (has_shelf ss f) → place ss f < length ss) → cond b 0 (suc (place ss f)) < length (s ∷ ss)
-    go true k ih = omega arith
-    go false k ih = omega (arith, ih k)
+place_below (s ∷ ss) f h = by_frame s f (λ b. T (b || has_shelf ss f) → cond b 0 (suc (place ss f)) < length (s ∷ ss)) (λ e k. omega arith) (λ n k. omega (arith, place_below ss f k)) h
