@@ -58,6 +58,7 @@ impl Claim<'_, '_, '_, '_> {
     pub fn check<S: TaskSource>(&self, source: &S) -> Result<(), RegisterFault>
         ensures { Fits (S.TaskSource.task source.now) self.now.frame.now self.now.shelves.records.now → Checks (SetWrong (S.TaskSource.task source.now) (shelves_of self.now.shelves.pool.now self.now.shelves.records.now) self.now.frame.now.mask (bit_of self.now.bytes.now)) result }
     {
+        // Labelled loops, not chains: what decides at a code, its goal or an operator, ends the walk over all codes.
         let mut answer = Ok(());
         let m = source.operators();
         let size = self.frame.size();

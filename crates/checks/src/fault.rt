@@ -33,6 +33,7 @@ pub enum RegisterFault {
     PoolTooShort(usize),
 }
 
+// By hand, not derived: `from_gives` tells callers which fault a `?` makes.
 impl From<FrameFault> for RegisterFault {
     ghost from_gives = { λ x y. y ≡ Frame x };
 

@@ -37,35 +37,30 @@ module _ (rs : List Shelf) (n : ℕ) (long : n ≤ length rs) (placed : Placed r
 -- ---- one shelf more
 
 module _ (rs : List Shelf) (n : ℕ) (s : Shelf) (h : n < length rs) where
-  at_same : (d : Shelf) → get_or (set rs n s) n d ≡ s
-  at_same d = get_or-set_same rs n s d h
-
-  at_other : (k : ℕ) (d : Shelf) → k ≢ n → get_or (set rs n s) k d ≡ get_or rs k d
-  at_other k d ne = get_or-set_other rs n k s d ne
+  -- what holds of the new shelf, and of the shelf that was at i, holds of the shelf at i
+  pushed : (P : Shelf → Type 0) (i : ℕ) (d : Shelf) → i < n + 1 → (i ≡ n → P s) → (i < n → P (get_or rs i d)) → P (get_or (set rs n s) i d)
+  pushed P i d l here before = ⊎_elim
+      (λ q. subst P (sym (ap (λ k. get_or (set rs n s) k d) q ∙ get_or-set_same rs n s d h)) (here q))
+      (λ ne. subst P (sym (get_or-set_other rs n i s d ne)) (before (omega arith)))
+      (cases_eq i n)
 
   pub laid_push : laid (take (n + 1) (set rs n s)) ≡ laid (take n rs) + bytes_for s.frame.size
   laid_push = ap laid (take_more_set rs n s h) ∙ laid-++ (take n rs) (s ∷ []) ∙ omega arith
 
   pub placed_push : Placed rs n → s.at ≡ laid (take n rs) → Placed (set rs n s) (n + 1)
-  placed_push p e i d l = ⊎_elim
-      (λ q. subst (λ k. (get_or (set rs n s) k d).at ≡ laid (take k (set rs n s))) (sym q) (ap (λ (x : Shelf). x.at) (at_same d) ∙ e ∙ sym (ap laid (take-set rs n s))))
-      (λ ne. let le : i ≤ n = omega arith in ap (λ (x : Shelf). x.at) (at_other i d ne) ∙ p i d (omega arith) ∙ sym (ap laid (take-set-le i rs n s le)))
-      (cases_eq i n)
+  placed_push p e i d l = pushed (λ x. x.at ≡ laid (take i (set rs n s))) i d l
+      (λ q. e ∙ sym (ap (λ k. laid (take k (set rs n s))) q ∙ ap laid (take-set rs n s)))
+      (λ k. let le : i ≤ n = omega arith in p i d k ∙ sym (ap laid (take-set-le i rs n s le)))
 
   pub distinct_push : Distinct rs n → ((i : ℕ) (d : Shelf) → i < n → (get_or rs i d).frame.mask ≡ s.frame.mask → ⊥) → Distinct (set rs n s) (n + 1)
-  distinct_push p lacks i j d (l, k, e) = ⊎_elim
-      (λ q. lacks i d (omega arith) (sym (mask_other i (omega arith)) ∙ e ∙ subst (λ k. (get_or (set rs n s) k d).frame.mask ≡ s.frame.mask) (sym q) (ap (λ (x : Shelf). x.frame.mask) (at_same d))))
-      (λ ne. p i j d (l, omega arith, sym (mask_other i (omega arith)) ∙ e ∙ mask_other j ne))
-      (cases_eq j n)
-    where
-      mask_other : (k : ℕ) → k ≢ n → (get_or (set rs n s) k d).frame.mask ≡ (get_or rs k d).frame.mask
-      mask_other k ne = ap (λ (x : Shelf). x.frame.mask) (at_other k d ne)
+  distinct_push p lacks i j d (l, k, e) =
+      pushed (λ x. (get_or (set rs n s) i d).frame.mask ≡ x.frame.mask → ⊥) j d k
+      (λ q. pushed (λ x. x.frame.mask ≡ s.frame.mask → ⊥) i d (omega arith) (λ r. absurd (omega arith)) (lacks i d))
+      (λ o. pushed (λ x. x.frame.mask ≡ (get_or rs j d).frame.mask → ⊥) i d (omega arith) (λ r. absurd (omega arith)) (λ r u. p i j d (l, o, u)))
+      e
 
   pub counted_push : (m : ℕ) → Counted m rs n → s.frame.n ≡ m → Counted m (set rs n s) (n + 1)
-  counted_push m p e i d l = ⊎_elim
-      (λ q. subst (λ k. (get_or (set rs n s) k d).frame.n ≡ m) (sym q) (ap (λ (x : Shelf). x.frame.n) (at_same d) ∙ e))
-      (λ ne. ap (λ (x : Shelf). x.frame.n) (at_other i d ne) ∙ p i d (omega arith))
-      (cases_eq i n)
+  counted_push m p e i d l = pushed (λ x. x.frame.n ≡ m) i d l (λ q. e) (p i d)
 
   pub sized_push : (sizes : List ℕ) → Sized sizes rs n → s.frame.sizes ≡ sizes → Sized sizes (set rs n s) (n + 1)
   sized_push sizes p e =
@@ -80,17 +75,15 @@ module _ (rs : List Shelf) (n : ℕ) (long : n ≤ length rs) (placed : Placed r
   -- a write past all shelves, where one more then lies
   pub spare_push : (s : Shelf) (k : ℕ) → n < length rs → s.at ≡ laid (take n rs) → bytes_for s.frame.size ≡ k → s.at + k ≤ length pool → length ys ≡ k → ((c : ℕ) → bit_of ys c ≡ false) → NoSpare pool rs n
       → NoSpare (put_mid s.at k pool ys) (set rs n s) (n + 1)
-  spare_push s k h at size fits full none p i c d (l, b) = ⊎_elim
-      (λ q.
-      let here : get_or (set rs n s) i d ≡ s = subst (λ j. get_or (set rs n s) j d ≡ s) (sym q) (get_or-set_same rs n s d h) in
+  spare_push s k h at size fits full none p i c d (l, b) = pushed rs n s h (λ x. bit_of (bytes_of (put_mid s.at k pool ys) x) c ≡ true → c < x.frame.size) i d l
+      (λ q u.
       let window : bytes_of (put_mid s.at k pool ys) s ≡ ys = ap (λ w. take w (drop s.at (put_mid s.at k pool ys))) size ∙ window_same s.at k pool ys fits full in
-      absurd (both_ways (bit_of ys c) (none c) (subst (λ xs. bit_of xs c ≡ true) window (subst (λ (x : Shelf). bit_of (bytes_of (put_mid s.at k pool ys) x) c ≡ true) here b))))
-      (λ ne.
-      let there : get_or (set rs n s) i d ≡ get_or rs i d = get_or-set_other rs n i s d ne in
+      absurd (both_ways (bit_of ys c) (none c) (subst (λ xs. bit_of xs c ≡ true) window u)))
+      (λ o u.
       let x = get_or rs i d in
-      let window : bytes_of (put_mid s.at k pool ys) x ≡ bytes_of pool x = window_below s.at k pool ys fits full x.at (bytes_for x.frame.size) (omega (arith, at, inside_top rs n long placed i d (omega arith))) in
-      subst (λ (y : Shelf). c < y.frame.size) (sym there) (p i c d (omega arith, subst (λ xs. bit_of xs c ≡ true) window (subst (λ (y : Shelf). bit_of (bytes_of (put_mid s.at k pool ys) y) c ≡ true) there b))))
-      (cases_eq i n)
+      let window : bytes_of (put_mid s.at k pool ys) x ≡ bytes_of pool x = window_below s.at k pool ys fits full x.at (bytes_for x.frame.size) (omega (arith, at, inside_top rs n long placed i d o)) in
+      p i c d (o, subst (λ xs. bit_of xs c ≡ true) window u))
+      b
 
   -- a write of the bytes of the shelf x, which has the number i
   pub spare_join : (i : ℕ) (x : Shelf) (k : ℕ) → i < n → x ≡ get_or rs i x → bytes_for x.frame.size ≡ k → x.at + k ≤ length pool → length ys ≡ k → ((c : ℕ) → bit_of ys c ≡ true → c < x.frame.size) → NoSpare pool rs n
