@@ -1,6 +1,8 @@
 -- A survey's rounds and a projection's best plan: there is one at most, and the rounds are below the frame's size.
-use Rattle.std.proofs.Common.{◌≡◌, ℕ, zero, suc, ◌<◌, ◌≤◌, List, [], ◌∷◌, length, sym, refl, ap, ◌∙◌, subst, ⊎_elim, arith}
-use Rattle.std.specs.List.{AllByRecursion as All}
+use Rattle.std.proofs.Common.{◌≡◌, ℕ, zero, suc, ◌<◌, ◌≤◌, true, false, eqb, List, [], ◌∷◌, length, sym, refl, ap, ◌∙◌, subst, ⊎_elim, arith}
+use Rattle.std.specs.List.{AllByRecursion as All, IsDistinct, list_any}
+use Rattle.std.proofs.lemmas.Bool.{false≢true, eqb-true, ne_eqb, or_cases}
+use Rattle.std.proofs.lemmas.Map.Steps.{length-le_from_distinct_below}
 use Rattle.std.proofs.ByRecursion.{All-weaker}
 use Rattle.model.specs.Tasks.{Task, Position, Legal, Lawful, after}
 use Rattle.model.specs.Frames.{onto, code, frame_size}
@@ -10,7 +12,6 @@ use Rattle.model.proofs.LeavingOut.{leave_out_lawful}
 use Rattle.model.proofs.Coding.{code_below_size, same_code}
 use Rattle.shelves.specs.Shelves.{Shelf}
 use Rattle.shelves.specs.Surveys.{Reaches, Rounds, Best, SurveysDetermined}
-use Rattle.shelves.proofs.Counting.{Different, different_few}
 use Rattle.shelves.proofs.Surveying.{files_once}
 
 rounds_most : (t : Task) (ss : List Shelf) (f a b : ℕ) → Rounds t ss f a → Rounds t ss f b → a ≤ b
@@ -59,22 +60,29 @@ module _ (t : Task) (law : Lawful t) (ss : List Shelf) (f : ℕ) where
       let long : suc k ≤ length y.way.0 = x.none y.way.0 (subst (Reaches t ss f y.way.0) (sym one) y.way.1) in
       omega (arith, y.way.2)
 
-  codes : (k : ℕ) (q : Position) → Fewest k q → (xs : List ℕ) × (length xs ≡ suc k) × All (Near k) xs × Different xs
+  codes : (k : ℕ) (q : Position) → Fewest k q → (xs : List ℕ) × (length xs ≡ suc k) × All (Near k) xs × IsDistinct eqb xs
+  unfolding IsDistinct
   codes zero q h = (code t f q ∷ [], refl, ((0, q, omega arith, refl, h), tt), (tt, tt))
   codes (suc k) q h =
       let p = next k q h in
-      let (xs, l, near, different) = codes k p.0 p.1 in (
+      let (xs, l, near, distinct) = codes k p.0 p.1 in (
         code t f q ∷ xs,
         ap suc l,
         ((suc k, q, omega arith, refl, h), All-weaker (Near k) (Near (suc k)) (λ c x. (x.0, x.1, omega (arith, x.2), x.3, x.4)) xs near),
-        (All-weaker (Near k) (λ y. code t f q ≡ y → ⊥) (λ c x e. apart k x.0 q x.1 x.2 h x.4 (e ∙ sym x.3)) xs near, different),
+        (All-weaker (Near k) (λ y. eqb (code t f q) y ≡ false) (λ c x. ne_eqb (code t f q) c (λ e. apart k x.0 q x.1 x.2 h x.4 (e ∙ sym x.3))) xs near, distinct),
       )
+
+  near_below : (k : ℕ) (xs : List ℕ) → All (Near k) xs → (c : ℕ) → list_any (eqb c) xs ≡ true → c < frame_size t f
+  near_below k [] near c h = absurd (false≢true h)
+  near_below k (x ∷ xs) near c h = ⊎_elim
+      (λ e. subst (λ (z : ℕ). z < frame_size t f) (near.0.3 ∙ sym (eqb-true c x e)) (code_below_size t f near.0.1 near.0.4.legal))
+      (λ later. near_below k xs near.1 c later)
+      (or_cases (eqb c x) (list_any (eqb c) xs) h)
 
   pub fewest_below : (k : ℕ) (q : Position) → Fewest k q → k < frame_size t f
   fewest_below k q h =
-      let (xs, l, near, different) = codes k q h in
-      let room : length xs ≤ frame_size t f = different_few (frame_size t f) xs (All-weaker (Near k) (λ c. c < frame_size t f) (λ c x. subst (λ (z : ℕ). z < frame_size t f) x.3 (code_below_size t f x.1 x.4.legal)) xs near) different in
-      omega arith
+      let (xs, l, near, distinct) = codes k q h in
+      omega (arith, length-le_from_distinct_below xs (frame_size t f) distinct (near_below k xs near))
 
   pub rounds_below : (r : ℕ) → Rounds t ss f r → r < frame_size t f
   rounds_below r h = ⊎_elim
