@@ -13,6 +13,7 @@ use task::source::TaskSource;
 pub mod fault;
 
 // A ring of 1 to 32 variables: operator i passes the value 1 on from variable i to the next one around, and nothing starts at 1.
+// Ghost fields, and no `impl Model`: the law of its task needs the bounds of each value, which a number alone does not carry.
 #[derive(Clone, Copy)]
 pub struct Ring {
     n: usize,
