@@ -1,6 +1,7 @@
 -- Which fault of a card is tried first, and what words without a fault are.
-use Rattle.std.proofs.Common.{◌≡◌, ℕ, suc, ◌+◌, ◌<◌, ◌≤◌, cond, eqb, List, length, Some, refl, inl, inr, ⊎_elim, arith}
+use Rattle.std.proofs.Common.{◌≡◌, ℕ, suc, ◌+◌, ◌<◌, ◌≤◌, cond, eqb, List, length, Some, None, Ok, Err, Result, sym, refl, subst, inl, inr, ⊎_elim, arith}
 use Rattle.std.proofs.lemmas.Bool.{cases_lt, cases_eq}
+use Rattle.std.specs.Result.{IsErrAnd}
 use Rattle.model.specs.Orders.{First, Least}
 use Rattle.model.specs.Card.{word, variables, operators, records, size_at, start_at, goal_at, variable_of, value_of, next_at, next_of, card_length, Version, Counts, Length, Sizes, Starts, Heads, Nexts, Records, Ascends, IsCard, WholeChain}
 use Rattle.model.proofs.Firsts as firsts
@@ -8,7 +9,7 @@ use Rattle.model.proofs.Chains.{chain_whole}
 use Rattle.layout.specs.declared.fault.CardFault.{CardFault}
 use Rattle.layout.specs.declared.fault.CardFault.TheVariants.{TooShort, OtherVersion, BadCount, WrongLength, BadSize, BadStart, BadLink, BadRecord, BadOrder}
 use Rattle.layout.specs.Faults.{number, place, card_turn}
-use Rattle.layout.specs.Wrong.{CardWrong, NoneBelow}
+use Rattle.layout.specs.Wrong.{WrongHead, WrongNext, CardWrong, NoneBelow, TriesOf, Tries, Reads}
 
 -- ---- the fault with a number at a place
 
@@ -46,17 +47,28 @@ up_to_nine (BadLink i) = (omega arith, omega arith)
 up_to_nine (BadRecord i) = (omega arith, omega arith)
 up_to_nine (BadOrder i) = (omega arith, omega arith)
 
+-- ---- tests that are made one after the other, by number
+
 pub none_yet : (ws : List ℕ) → NoneBelow ws 1
 none_yet ws e h w = omega (arith, up_to_nine e)
 
-pub none_at_all : (ws : List ℕ) → NoneBelow ws 10 → (e : CardFault) → CardWrong ws e → ⊥
-none_at_all ws none e w = none e (omega (arith, up_to_nine e)) w
+module _ (ws : List ℕ) (k : ℕ) (low : NoneBelow ws k) where
+  pub none_more : Least (λ i. CardWrong ws (fault k i)) None → NoneBelow ws (k + 1)
+  none_more none = firsts.none_more number place fault back (CardWrong ws) k low none
 
-pub none_more : (ws : List ℕ) (k : ℕ) → NoneBelow ws k → ((i : ℕ) → CardWrong ws (fault k i) → ⊥) → NoneBelow ws (k + 1)
-none_more ws k low none = firsts.none_more number place fault back (CardWrong ws) k low none
+  -- the fault that a test answers is the first of all, where faults of its kind have the number k
+  pub first_tried : (e : CardFault) → ((i : ℕ) × (e ≡ fault k i) × Least (λ j. CardWrong ws (fault k j)) (Some i)) → ((i : ℕ) → (number (fault k i) ≡ k) × (place (fault k i) ≡ i)) → First card_turn (CardWrong ws) e
+  first_tried e h at = subst (λ d. First card_turn (CardWrong ws) d) (sym h.1) (firsts.first_at number place fault back (CardWrong ws) k h.0 low h.2 (at h.0).0 (at h.0).1)
 
-pub first_at : (ws : List ℕ) (k i : ℕ) → NoneBelow ws k → Least (λ j. CardWrong ws (fault k j)) (Some i) → number (fault k i) ≡ k → place (fault k i) ≡ i → First card_turn (CardWrong ws) (fault k i)
-first_at ws k i low least n p = firsts.first_at number place fault back (CardWrong ws) k i low least n p
+  -- and where that answer is handed on
+  pub declined : (r : Result (Unit {0}) CardFault) (e : CardFault) → IsErrAnd r (λ d. d ≡ e) → ((i : ℕ) × (e ≡ fault k i) × Least (λ j. CardWrong ws (fault k j)) (Some i)) → ((i : ℕ) → (number (fault k i) ≡ k) × (place (fault k i) ≡ i)) → Reads ws r
+  declined (Ok _) e is h at = absurd is
+  declined (Err d) e is h at = subst (λ x. First card_turn (CardWrong ws) x) (sym is) (first_tried e h at)
+
+-- what the tests of heads and of nexts answer in turn
+pub links : (ws : List ℕ) (r : Result (Unit {0}) CardFault) → Least (WrongHead ws) None → TriesOf (WrongNext ws) BadLink r → Tries ws BadLink r
+links ws (Ok _) none h = firsts.least_right (WrongHead ws) (WrongNext ws) None none h
+links ws (Err e) none h = (h.0, h.1, firsts.least_right (WrongHead ws) (WrongNext ws) (Some h.0) none h.2)
 
 -- ---- words without a fault are a card
 
@@ -106,9 +118,14 @@ module _ (ws : List ℕ) (none : (e : CardFault) → CardWrong ws e → ⊥) whe
   ascends k is l = at_most (suc (variable_of ws k)) (variable_of ws (next_of ws k)) (BadOrder (next_at ws k)) (λ h. (k, is, refl, l, omega arith))
 
   -- and its chains are whole
-  pub clean_card : ((e : CardFault) → CardWrong ws e → ⊥) × IsCard ws × ((k : ℕ) → k ≤ records ws → WholeChain ws k)
+  clean_card : ((e : CardFault) → CardWrong ws e → ⊥) × IsCard ws × ((k : ℕ) → k ≤ records ws → WholeChain ws k)
   clean_card = (
     none,
     record { version = version; counts = counts; long = whole; sizes = sizes; starts = starts; heads = heads; nexts = nexts; records = recs; ascends = ascends },
     chain_whole ws nexts recs ascends,
   )
+
+-- what the last test answers is what the reader answers
+pub reads_last : (ws : List ℕ) (r : Result (Unit {0}) CardFault) → NoneBelow ws 9 → Tries ws BadOrder r → Reads ws r
+reads_last ws (Ok _) low none = clean_card ws (λ e w. none_more ws 9 low none e (omega (arith, up_to_nine e)) w)
+reads_last ws (Err e) low h = first_tried ws 9 low e h (λ i. (refl, refl))

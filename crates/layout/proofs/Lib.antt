@@ -1,1 +1,2 @@
 pub mod Faulting
+pub mod Finds

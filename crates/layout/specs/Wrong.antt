@@ -1,6 +1,6 @@
 -- What is wrong with words that are to be a card, and what the reader answers.
-use Rattle.std.specs.Prelude.{◌≡◌, ℕ, ◌+◌, ◌*◌, ◌<◌, ◌≤◌, ◌⊎◌, List, length, Ok, Err, Result, ◌≢◌}
-use Rattle.model.specs.Orders.{First}
+use Rattle.std.specs.Prelude.{◌≡◌, ℕ, ◌+◌, ◌*◌, ◌<◌, ◌≤◌, ◌⊎◌, List, length, Some, None, Ok, Err, Result, ◌≢◌}
+use Rattle.model.specs.Orders.{First, Least}
 use Rattle.model.specs.Card.{word, variables, operators, records, size_at, start_at, goal_at, record_at, variable_of, value_of, next_at, next_of, card_length, IsRecord, IsCard, WholeChain}
 use Rattle.layout.specs.declared.fault.CardFault.{CardFault}
 use Rattle.layout.specs.declared.fault.CardFault.TheVariants.{TooShort, OtherVersion, BadCount, WrongLength, BadSize, BadStart, BadLink, BadRecord, BadOrder}
@@ -32,6 +32,15 @@ CardWrong ws (BadOrder i) = (k : ℕ) × IsRecord ws k × (i ≡ next_at ws k) �
 -- no fault with a number below k is there
 abbrev pub NoneBelow : List ℕ → ℕ → Type 0
 NoneBelow ws k = (e : CardFault) → number e < k → CardWrong ws e → ⊥
+
+-- what a test answers: what it looks for is at no word, or e is the fault at the lowest word where it is
+abbrev pub TriesOf : (ℕ → Type 0) → (ℕ → CardFault) → {A : Type 0} → Result A CardFault → Type 0
+TriesOf Wrong fault (Ok _) = Least Wrong None
+TriesOf Wrong fault (Err e) = (i : ℕ) × (e ≡ fault i) × Least Wrong (Some i)
+
+-- what the test for one kind of fault answers
+abbrev pub Tries : List ℕ → (ℕ → CardFault) → {A : Type 0} → Result A CardFault → Type 0
+Tries ws fault r = TriesOf (λ i. CardWrong ws (fault i)) fault r
 
 -- what the reader answers: the words are accepted exactly where no fault is there, and else declined for the one that is tried first
 abbrev pub Reads : {A : Type 0} → List ℕ → Result A CardFault → Type 0

@@ -1,8 +1,8 @@
 // The tests of a card's words, each of which names the lowest word at fault.
 ghost use Rattle.std.specs.Result.{MatchResult};
-ghost use Rattle.model.specs.Orders.{First, Least};
+ghost use Rattle.model.specs.Orders.{First};
 ghost use Rattle.layout.specs.declared.fault.CardFault.TheVariants.{BadCount, BadSize, BadStart, BadLink, BadRecord, BadOrder};
-ghost use Rattle.layout.specs.Wrong.{CardWrong, WrongHead, WrongNext, NoneBelow, Reads};
+ghost use Rattle.layout.specs.Wrong.{CardWrong, WrongHead, WrongNext, NoneBelow, Tries, TriesOf, Reads};
 ghost use Rattle.layout.specs.Faults.{card_turn};
 
 use crate::fault::CardFault;
@@ -18,104 +18,18 @@ const MAX_RECORDS: u16 = 8192;
 
 const MAX_SIZE: u16 = 64;
 
-fn bad_count(words: &[u16]) -> Option<usize>
-    ensures { Least (λ i. CardWrong words.now (BadCount i)) result }
+fn check_limits(words: &[u16]) -> Result<(), CardFault>
+    ensures { Tries words.now BadCount result }
 {
-    let n = variables(words);
-    if n < 1 || n > MAX_VARIABLES {
-        Some(1)
+    if !(1..=MAX_VARIABLES).contains(&variables(words)) {
+        Err(CardFault::BadCount(1))
     } else if operators(words) > MAX_OPERATORS {
-        Some(2)
+        Err(CardFault::BadCount(2))
     } else if records(words) > MAX_RECORDS {
-        Some(3)
+        Err(CardFault::BadCount(3))
     } else {
-        None
+        Ok(())
     }
-}
-
-fn bad_size(words: &[u16]) -> Option<usize>
-    ensures { Least (λ i. CardWrong words.now (BadSize i)) result }
-{
-    for v in 0..variables(words) {
-        let size = word(words, 4 + v);
-        if size < 1 || size > MAX_SIZE {
-            return Some(4 + v);
-        }
-    }
-    None
-}
-
-fn bad_start(words: &[u16]) -> Option<usize>
-    ensures { Least (λ i. CardWrong words.now (BadStart i)) result }
-{
-    let n = variables(words);
-    for v in 0..n {
-        if word(words, 4 + n + v) >= word(words, 4 + v) {
-            return Some(4 + n + v);
-        }
-    }
-    None
-}
-
-// The heads stand side by side, the goal's first.
-fn bad_head(words: &[u16]) -> Option<usize>
-    ensures { Least (WrongHead words.now) result }
-{
-    let goal = goal_at(words);
-    for i in goal..goal + 2 * operators(words) + 1 {
-        if word(words, i) > records(words) {
-            return Some(i);
-        }
-    }
-    None
-}
-
-fn bad_next(words: &[u16]) -> Option<usize>
-    ensures { Least (WrongNext words.now) result }
-{
-    for k in 0..records(words) {
-        if next_of(words, k + 1) > records(words) {
-            return Some(record_at(words, k + 1) + 2);
-        }
-    }
-    None
-}
-
-fn bad_link(words: &[u16]) -> Option<usize>
-    ensures { Least (λ i. CardWrong words.now (BadLink i)) result }
-{
-    match bad_head(words) {
-        Some(i) => Some(i),
-        None => bad_next(words),
-    }
-}
-
-fn bad_record(words: &[u16]) -> Option<usize>
-    ensures { Least (λ i. CardWrong words.now (BadRecord i)) result }
-{
-    let n = variables(words);
-    for k in 0..records(words) {
-        let v = variable_of(words, k + 1);
-        if v >= n {
-            return Some(record_at(words, k + 1));
-        }
-        if value_of(words, k + 1) >= word(words, 4 + v) {
-            return Some(record_at(words, k + 1) + 1);
-        }
-    }
-    None
-}
-
-fn bad_order(words: &[u16]) -> Option<usize>
-    ensures { Least (λ i. CardWrong words.now (BadOrder i)) result }
-{
-    for k in 0..records(words) {
-        let next = next_of(words, k + 1);
-        if next > 0 && variable_of(words, next) <= variable_of(words, k + 1) {
-            return Some(record_at(words, k + 1) + 2);
-        }
-    }
-    None
 }
 
 // The version, the counts and the length.
@@ -128,13 +42,85 @@ fn check_counts(words: &[u16]) -> Result<(), CardFault>
     if word(words, 0) != 1 {
         return Err(CardFault::OtherVersion);
     }
-    if let Some(i) = bad_count(words) {
-        return Err(CardFault::BadCount(i));
-    }
+    check_limits(words)?;
     if words.len() != card_length(words) {
         return Err(CardFault::WrongLength(words.len()));
     }
     Ok(())
+}
+
+fn check_sizes(words: &[u16]) -> Result<(), CardFault>
+    ensures { Tries words.now BadSize result }
+{
+    match (4..4 + variables(words)).find(|&i| !(1..=MAX_SIZE).contains(&word(words, i))) {
+        Some(i) => Err(CardFault::BadSize(i)),
+        None => Ok(()),
+    }
+}
+
+fn check_starts(words: &[u16]) -> Result<(), CardFault>
+    ensures { Tries words.now BadStart result }
+{
+    let n = variables(words);
+    match (0..n).find(|&v| word(words, 4 + n + v) >= word(words, 4 + v)) {
+        Some(v) => Err(CardFault::BadStart(4 + n + v)),
+        None => Ok(()),
+    }
+}
+
+// The heads stand side by side, the goal's first.
+fn check_heads(words: &[u16]) -> Result<(), CardFault>
+    ensures { TriesOf (WrongHead words.now) BadLink result }
+{
+    let goal = goal_at(words);
+    match (goal..=goal + 2 * operators(words)).find(|&i| word(words, i) > records(words)) {
+        Some(i) => Err(CardFault::BadLink(i)),
+        None => Ok(()),
+    }
+}
+
+fn check_nexts(words: &[u16]) -> Result<(), CardFault>
+    ensures { TriesOf (WrongNext words.now) BadLink result }
+{
+    match (1..=records(words)).find(|&k| next_of(words, k) > records(words)) {
+        Some(k) => Err(CardFault::BadLink(record_at(words, k) + 2)),
+        None => Ok(()),
+    }
+}
+
+fn check_links(words: &[u16]) -> Result<(), CardFault>
+    ensures { Tries words.now BadLink result }
+{
+    check_heads(words)?;
+    check_nexts(words)
+}
+
+fn check_records(words: &[u16]) -> Result<(), CardFault>
+    ensures { Tries words.now BadRecord result }
+{
+    let n = variables(words);
+    let wrong = |&k: &u16| {
+        let v = variable_of(words, k);
+        v >= n || value_of(words, k) >= word(words, 4 + v)
+    };
+    match (1..=records(words)).find(wrong) {
+        Some(k) if variable_of(words, k) >= n => Err(CardFault::BadRecord(record_at(words, k))),
+        Some(k) => Err(CardFault::BadRecord(record_at(words, k) + 1)),
+        None => Ok(()),
+    }
+}
+
+fn check_order(words: &[u16]) -> Result<(), CardFault>
+    ensures { Tries words.now BadOrder result }
+{
+    let descends = |&k: &u16| {
+        let next = next_of(words, k);
+        next > 0 && variable_of(words, next) <= variable_of(words, k)
+    };
+    match (1..=records(words)).find(descends) {
+        Some(k) => Err(CardFault::BadOrder(record_at(words, k) + 2)),
+        None => Ok(()),
+    }
 }
 
 // All tests, in the order of their numbers.
@@ -142,20 +128,9 @@ pub fn check_words(words: &[u16]) -> Result<(), CardFault>
     ensures { Reads words.now result }
 {
     check_counts(words)?;
-    if let Some(i) = bad_size(words) {
-        return Err(CardFault::BadSize(i));
-    }
-    if let Some(i) = bad_start(words) {
-        return Err(CardFault::BadStart(i));
-    }
-    if let Some(i) = bad_link(words) {
-        return Err(CardFault::BadLink(i));
-    }
-    if let Some(i) = bad_record(words) {
-        return Err(CardFault::BadRecord(i));
-    }
-    if let Some(i) = bad_order(words) {
-        return Err(CardFault::BadOrder(i));
-    }
-    Ok(())
+    check_sizes(words)?;
+    check_starts(words)?;
+    check_links(words)?;
+    check_records(words)?;
+    check_order(words)
 }
