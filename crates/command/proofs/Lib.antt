@@ -1,3 +1,4 @@
+pub mod Gathering
 pub mod Texts
 pub mod Wording
 pub mod Saying

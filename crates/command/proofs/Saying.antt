@@ -10,7 +10,13 @@ use Rattle.command.specs.Words.{FirstWord, Words, BeforeComment, numerals}
 use Rattle.command.specs.Commands.{Saying, verb_of, taking, with_numbers, says}
 use Rattle.command.specs.Faults.{IfMemorySuffices}
 
--- what is said of a fault where memory suffices, from what was said of it
+-- what is said of an answer where memory suffices, from what was said of it
+pub if_memory-weaker : {T : Type 0} (r : Result T ParseError) (P Q : Result T LineFault → Type 0) → IfMemorySuffices r P → ((x : Result T LineFault) → P x → Q x) → IfMemorySuffices r Q
+if_memory-weaker (Ok x) P Q h k = k (Ok x) h
+if_memory-weaker (Err (Line fault)) P Q h k = k (Err fault) h
+if_memory-weaker (Err (OutOfMemory full)) P Q h k = tt
+
+-- the same of a fault, which is passed on as the answer of another kind
 pub at_fault : {T U : Type 0} (P : Result T LineFault → Type 0) (Q : Result U LineFault → Type 0) (e : ParseError) → IfMemorySuffices (Err e) P → ((fault : LineFault) → P (Err fault) → Q (Err fault)) → IfMemorySuffices (Err e) Q
 at_fault P Q (Line fault) h k = k fault h
 at_fault P Q (OutOfMemory full) h k = tt

@@ -4,7 +4,13 @@ use Rattle.std.specs.Str.{IsUtf8, NoCharPasses, EmptyOrStartsWithPassing, all_sc
 use Rattle.std.specs.Char.{is_whitespace, is_not_whitespace, encode_utf8, IsScalar}
 use Rattle.std.proofs.lemmas.Str.{IsUtf8-past_char, length-encode, len_utf8_bounds}
 use Rattle.std.proofs.lemmas.Bool.{and_parts, cases_Bool}
+use Rattle.std.specs.Str.Iter.{split_whitespace_steps, split_whitespace_rest}
+use Rattle.command.proofs.Gathering.{Source}
 use Rattle.command.specs.Words.{FirstWord, Words}
+
+-- what `split_whitespace` says of an item
+pub first_word : (bs w rest : List ℕ) → (gap : List ℕ) × (bs ≡ gap ++ (w ++ rest)) × (0 < length w) × NoCharPasses is_not_whitespace gap × NoCharPasses is_whitespace w × ((more : List ℕ) × EmptyOrStartsWithPassing is_whitespace rest more) → FirstWord bs w rest
+first_word bs w rest cut = record { gap = cut.0; cut = cut.1; some = cut.2; blank = cut.3; solid = cut.4; ends = cut.5 }
 
 after_chars : (cs bs rest : List ℕ) → IsUtf8 bs → bs ≡ encode_utf8_all cs ++ rest → IsUtf8 rest
 after_chars [] bs rest u e = subst IsUtf8 e u
@@ -82,3 +88,10 @@ words_of_chars (c ∷ cs) h =
 -- each text has words
 pub has_words : (bs : List ℕ) → IsUtf8 bs → (ws : List (List ℕ)) × Words bs ws
 has_words bs u = subst (λ xs. (ws : List (List ℕ)) × Words xs ws) u.1.1 (words_of_chars u.0 u.1.0).0
+
+pub texts : Source split_whitespace_steps (λ x. x.now) (λ s. IsUtf8 (split_whitespace_rest s)) (λ s ws. Words (split_whitespace_rest s) ws)
+texts = record {
+  next = λ s t x e u. let first = first_word _ x.now _ e in (after_word _ x.now _ first u, λ ws l. (_, first, l));
+  end = λ s t e. e.1;
+  left = λ s u. has_words _ u;
+}

@@ -1,28 +1,19 @@
 -- The words of a line, one after the other, and the numbers that they write.
-use Rattle.std.proofs.Common.{◌≡◌, ℕ, ◌^◌, ◌<◌, Bool, true, false, ltb, List, [], ◌∷◌, ◌++◌, length, get_or, drop, Some, None, Ok, Err, Option, Result, sym, refl, ap, ◌∙◌, subst, ⊎_elim, append_assoc, append-nil, rules}
-use Rattle.std.specs.Str.{IsUtf8, NoCharPasses, EmptyOrStartsWithPassing, all_ascii_digits}
-use Rattle.std.specs.Char.{is_whitespace, is_not_whitespace}
+use Rattle.std.proofs.Common.{◌≡◌, ℕ, ◌^◌, ◌<◌, Bool, true, false, cond, ◌&&◌, ltb, List, [], ◌∷◌, length, get_or, drop, Some, None, Ok, Err, Option, Result, sym, refl, ap, ◌∙◌, ⊎_elim, rules}
+use Rattle.std.specs.Str.{all_ascii_digits}
 use Rattle.std.specs.Result.{OkIff, result_ok}
 use Rattle.std.specs.Str.Parse.{ParsesUnsigned}
 use Rattle.std.specs.Option.{ok_or}
-use Rattle.command.specs.declared.kinds.LineFault.{LineFault}
 use Rattle.command.specs.declared.kinds.LineFault.TheVariants.{NoNumber}
 use Rattle.std.proofs.lemmas.Str.Parse.{IsNumeralModel, numerals_by_fold, parse_plain, parse_plus}
 use Rattle.std.proofs.lemmas.Bool.{cases_eq, cond-true, cond-false, and_from, and_parts, lt-ltb, ltb-true, eq-eqb, ne_eqb}
-use Rattle.command.proofs.Texts.{after_word, has_words}
-use Rattle.command.specs.Words.{FirstWord, Words, read_on, fitting, numeral, before, numerals}
+use Rattle.command.proofs.Gathering.{gathers, joined}
+use Rattle.command.specs.Commands.{narrow, all_narrow}
+use Rattle.command.specs.Words.{read_on, fitting, numeral, before, numerals}
 
 untrue : (b : Bool) → (b ≡ true → ⊥) → b ≡ false
 untrue true h = absurd (h refl)
 untrue false h = refl
-
--- ---- words
-
--- what `split_whitespace` says of an item
-pub first_word : (bs w rest : List ℕ) → (gap : List ℕ) × (bs ≡ gap ++ (w ++ rest)) × (0 < length w) × NoCharPasses is_not_whitespace gap × NoCharPasses is_whitespace w × ((more : List ℕ) × EmptyOrStartsWithPassing is_whitespace rest more) → FirstWord bs w rest
-first_word bs w rest cut = record { gap = cut.0; cut = cut.1; some = cut.2; blank = cut.3; solid = cut.4; ends = cut.5 }
-
--- ---- numbers
 
 own : IsNumeralModel (λ ds. all_ascii_digits ds ≡ true) (read_on 0)
 own = numerals_by_fold _ (search rules) read_on (search rules)
@@ -41,65 +32,20 @@ number_read w r h = ⊎_elim
     (λ n. digits_read w r (parse_plain own 32 w r h n) ∙ ap (λ i. fitting 32 (drop i w)) (sym (cond-false _ 1 0 (ne_eqb _ 43 n))))
     (cases_eq (get_or w 0 0) 43)
 
-pub written : (o : Option ℕ) (x : ℕ) → Ok x ≡ ok_or o NoNumber → o ≡ Some x
-written None x h = cc
-written (Some y) x h = cc
+joined-numerals : (x : Option ℕ) (xs : Option (List ℕ)) → joined (ok_or x NoNumber) (ok_or xs NoNumber) ≡ ok_or (before x xs) NoNumber
+joined-numerals None xs = refl
+joined-numerals (Some x) None = refl
+joined-numerals (Some x) (Some xs) = refl
 
-pub unwritten : (o : Option ℕ) (fault : LineFault) → Err fault ≡ ok_or o NoNumber → (o ≡ None) × (fault ≡ NoNumber)
-unwritten None fault h = (refl, cc)
-unwritten (Some y) fault h = absurd (cc)
+pub gathers-numerals : (ws : List (List ℕ)) → gathers (λ w. ok_or (numeral 32 w) NoNumber) ws ≡ ok_or (numerals 32 ws) NoNumber
+gathers-numerals [] = refl
+gathers-numerals (w ∷ ws) = ap (joined (ok_or (numeral 32 w) NoNumber)) (gathers-numerals ws) ∙ joined-numerals (numeral 32 w) (numerals 32 ws)
 
-pushed : Option (List ℕ) → Option ℕ → Option (List ℕ)
-pushed None x = None
-pushed (Some xs) None = None
-pushed (Some xs) (Some x) = Some (xs ++ (x ∷ []))
+joined-narrow : (b c : Bool) (x : ℕ) (xs : List ℕ) → joined (cond b (Ok x) (Err NoNumber)) (cond c (Ok xs) (Err NoNumber)) ≡ cond (b && c) (Ok (x ∷ xs)) (Err NoNumber)
+joined-narrow true true x xs = refl
+joined-narrow true false x xs = refl
+joined-narrow false c x xs = refl
 
-numerals_push : (bits : ℕ) (ws : List (List ℕ)) (w : List ℕ) → numerals bits (ws ++ (w ∷ [])) ≡ pushed (numerals bits ws) (numeral bits w)
-unfolding pushed
-numerals_push bits [] w = one (numeral bits w)
-  where
-    one : (x : Option ℕ) → before x (Some []) ≡ pushed (Some []) x
-    one None = refl
-    one (Some x) = refl
-numerals_push bits (v ∷ ws) w = ap (before (numeral bits v)) (numerals_push bits ws w) ∙ go (numeral bits v) (numerals bits ws) (numeral bits w)
-  where
-    go : (x : Option ℕ) (xs : Option (List ℕ)) (y : Option ℕ) → before x (pushed xs y) ≡ pushed (before x xs) y
-    go None xs y = refl
-    go (Some x) None y = refl
-    go (Some x) (Some xs) None = refl
-    go (Some x) (Some xs) (Some y) = refl
-
-before_none : (x : Option ℕ) → before x None ≡ None
-before_none None = refl
-before_none (Some x) = refl
-
-numerals_not : (bits : ℕ) (vs ws : List (List ℕ)) (w : List ℕ) → numeral bits w ≡ None → numerals bits (vs ++ (w ∷ ws)) ≡ None
-numerals_not bits [] ws w e = ap (λ x. before x (numerals bits ws)) e
-numerals_not bits (v ∷ vs) ws w e = ap (before (numeral bits v)) (numerals_not bits vs ws w e) ∙ before_none (numeral bits v)
-
--- a loop over the words of a text: those before rest are seen, and the numbers that they write are found
-pub record Sofar (text rest found : List ℕ) : Type 0 where
-  pub seen : List (List ℕ)
-  pub split : (ws : List (List ℕ)) → Words rest ws → Words text (seen ++ ws)
-  pub numbers : numerals 32 seen ≡ Some found
-  pub utf8 : IsUtf8 rest
-
-module _ {text rest found : List ℕ} (old : Sofar text rest found) where
-  pub sofar_all : Words rest [] → (ws : List (List ℕ)) × Words text ws × (numerals 32 ws ≡ Some found)
-  sofar_all none = (old.seen, subst (Words text) (append-nil old.seen) (old.split [] none), old.numbers)
-
-  module _ {w next : List ℕ} (first : FirstWord rest w next) where
-    pub sofar_more : (x : ℕ) → numeral 32 w ≡ Some x → Sofar text next (found ++ (x ∷ []))
-    unfolding pushed
-    sofar_more x e = record {
-      seen = old.seen ++ (w ∷ []);
-      split = λ ws h. subst (Words text) (sym (append_assoc old.seen (w ∷ []) ws)) (old.split (w ∷ ws) (next, first, h));
-      numbers = numerals_push 32 old.seen w ∙ ap (λ xs. pushed xs (numeral 32 w)) old.numbers ∙ ap (pushed (Some found)) e;
-      utf8 = after_word rest w next first old.utf8;
-    }
-
-    -- a word that writes no number
-    pub sofar_not : numeral 32 w ≡ None → (ws : List (List ℕ)) × Words text ws × (numerals 32 ws ≡ None)
-    sofar_not e =
-        let later = has_words next (after_word rest w next first old.utf8) in
-        (old.seen ++ (w ∷ later.0), old.split (w ∷ later.0) (next, first, later.1), numerals_not 32 old.seen later.0 w e)
+pub gathers-narrow : (xs : List ℕ) → gathers (λ x. cond (narrow x) (Ok x) (Err NoNumber)) xs ≡ cond (all_narrow xs) (Ok xs) (Err NoNumber)
+gathers-narrow [] = refl
+gathers-narrow (x ∷ xs) = ap (joined (cond (narrow x) (Ok x) (Err NoNumber))) (gathers-narrow xs) ∙ joined-narrow (narrow x) (all_narrow xs) x xs

@@ -1,17 +1,17 @@
 // The commands of a script, and why a line is none.
-ghost use Rattle.std.specs.Prelude.{◌≡◌, Some, alloc_error};
+ghost use Rattle.std.specs.Prelude.{◌≡◌, Some};
 ghost use Rattle.std.specs.Option.{ok_or};
 ghost use Rattle.command.specs.declared.kinds.LineFault.TheVariants.{NoCommand};
 ghost use Rattle.command.specs.declared.kinds.ParseError.TheVariants.{Line, OutOfMemory};
 ghost use Rattle.command.specs.Commands.{verb_of};
 ghost use Rattle.command.specs.Faults.{fault_text};
 
-use std::alloc::{AllocError, AllocFailed};
+use std::alloc::AllocError;
 use std::fmt;
 use std::str::FromStr;
 
 // What a line begins with.
-#[derive(Clone, Copy)]
+#[derive(Clone, Copy, PartialEq, Eq, Debug)]
 pub enum Verb {
     Card,
     Ring,
@@ -47,7 +47,7 @@ impl FromStr for Verb {
     }
 }
 
-#[derive(Drop)]
+#[derive(PartialEq, Eq, Debug, Drop)]
 pub enum Command {
     // these words are the task
     Card(Vec<u16>),
@@ -62,7 +62,7 @@ pub enum Command {
 }
 
 // What a command asks of the task.
-#[derive(Drop)]
+#[derive(PartialEq, Eq, Debug, Drop)]
 pub enum Query {
     // its variables and operators
     Task,
@@ -101,7 +101,7 @@ impl fmt::Display for LineFault {
 }
 
 // Why no command was read from a line.
-#[derive(Clone, Copy, Debug)]
+#[derive(Clone, Copy, PartialEq, Eq, Debug)]
 pub enum ParseError {
     // the line is none
     Line(LineFault),
@@ -122,13 +122,5 @@ impl From<AllocError> for ParseError {
 
     fn from(full: AllocError) -> Self {
         ParseError::OutOfMemory(full)
-    }
-}
-
-impl<T: Drop> From<AllocFailed<T>> for ParseError {
-    ghost from_gives = { λ _ error. error ≡ OutOfMemory alloc_error };
-
-    fn from(full: AllocFailed<T>) -> Self {
-        ParseError::OutOfMemory(full.into())
     }
 }

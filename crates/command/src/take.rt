@@ -2,6 +2,7 @@
 ghost use Rattle.std.specs.Prelude.{◌≡◌, if◌then◌else◌, Ok, Err, vec_items};
 ghost use Rattle.std.specs.Result.{result_map_both};
 ghost use Rattle.command.specs.declared.kinds.LineFault.TheVariants.{NoNumber};
+ghost use Rattle.command.specs.declared.kinds.ParseError.TheVariants.{Line};
 ghost use Rattle.command.specs.Commands.{narrow, all_narrow, taking, meant};
 ghost use Rattle.command.specs.Faults.{IfMemorySuffices};
 
@@ -9,20 +10,16 @@ use crate::kinds::{Command, LineFault, ParseError, Query, Verb};
 use std::alloc::Global;
 
 // The number in 16 bits, if it fits.
-fn narrow(number: u32) -> Result<u16, LineFault>
-    ensures { result ≡ (if narrow number then Ok number else Err NoNumber) }
+fn narrow(number: u32) -> Result<u16, ParseError>
+    ensures { result ≡ (if narrow number then Ok number else Err (Line NoNumber)) }
 {
-    u16::try_from(number).map_err(|_| LineFault::NoNumber)
+    u16::try_from(number).map_err(|_| LineFault::NoNumber.into())
 }
 
 fn narrowed(heap: Global, numbers: &[u32]) -> Result<Vec<u16>, ParseError>
     ensures { IfMemorySuffices result (λ found. result_map_both vec_items (λ fault. fault) found ≡ (if all_narrow numbers.now then Ok numbers.now else Err NoNumber)) }
 {
-    let mut found = Vec::new(heap);
-    for x in numbers {
-        found.push(narrow(*x)?)?;
-    }
-    Ok(found)
+    numbers.iter().map(|x| narrow(*x)).try_collect(heap)
 }
 
 // The command of this verb with these numbers.

@@ -5,6 +5,7 @@ ghost use Rattle.std.specs.Result.{result_map_both};
 ghost use Rattle.std.specs.Str.{IsUtf8};
 ghost use Rattle.std.specs.Str.Iter.{split_whitespace_rest};
 ghost use Rattle.command.specs.declared.kinds.LineFault.TheVariants.{NoNumber};
+ghost use Rattle.command.specs.declared.kinds.ParseError.TheVariants.{Line};
 ghost use Rattle.command.specs.Words.{Words, numeral, numerals};
 ghost use Rattle.command.specs.Faults.{IfMemorySuffices};
 
@@ -13,10 +14,10 @@ use std::alloc::Global;
 use std::str::SplitWhitespace;
 
 // The number of 32 bits that a word writes.
-fn number(word: &str) -> Result<u32, LineFault>
-    ensures { result ≡ ok_or (numeral 32 word.now) NoNumber }
+fn number(word: &str) -> Result<u32, ParseError>
+    ensures { result ≡ ok_or (numeral 32 word.now) (Line NoNumber) }
 {
-    word.parse::<u32>().map_err(|_| LineFault::NoNumber)
+    word.parse::<u32>().map_err(|_| LineFault::NoNumber.into())
 }
 
 // The words that are left, as numbers.
@@ -24,9 +25,5 @@ pub(crate) fn numbers(heap: Global, words: SplitWhitespace<'_>) -> Result<Vec<u3
     requires { IsUtf8 (split_whitespace_rest words) }
     ensures { IfMemorySuffices result (λ found. (ws : List (List ℕ)) × Words (split_whitespace_rest words.entry) ws × (result_map_both vec_items (λ fault. fault) found ≡ ok_or (numerals 32 ws) NoNumber)) }
 {
-    let mut found = Vec::new(heap);
-    for word in words {
-        found.push(number(word)?)?;
-    }
-    Ok(found)
+    words.map(number).try_collect(heap)
 }

@@ -2,8 +2,7 @@ use Rattle.std.proofs.Common.{◌∙◌}
 use Rattle.std.proofs.lemmas.Result.{err_from_is_err_and}
 use Rattle.command.specs.Words.{numerals}
 use Rattle.command.specs.Commands.{verb_of}
-use Rattle.command.proofs.Texts.{after_word, has_words}
-use Rattle.command.proofs.Wording.{first_word}
+use Rattle.command.proofs.Texts.{first_word, after_word, has_words}
 use Rattle.command.proofs.Saying.{at_fault, no_command, no_number, taken, line_says}
 use Rattle.command.proofs.parse.parse.Goals as goal
 
