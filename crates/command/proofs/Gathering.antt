@@ -68,8 +68,8 @@ module _ {X : Type 0} (h : X → Result ℕ LineFault) where
       rw (told_ok (h x) first.0 first.1) (rw (first_fault xs more i fault at (λ k l. below (suc k) (omega arith))) refl)
 
 -- the values that were put into a list one by one
-values : {V E : Type 0} (items : V → List ℕ) (extends : V → List ℕ → V → Type 0) (law : (v w : V) (ys : List ℕ) → extends v ys w → items w ≡ items v ++ ys) (xs : List (Result ℕ E)) (b v : V)
-    → FoldsTo (λ p x q. (y : ℕ) × (Ok y ≡ x) × extends p (y ∷ []) q) b xs v → (ys : List ℕ) × (xs ≡ map Ok ys) × (items v ≡ items b ++ ys)
+values : {V E : Type 0} (items : V → List ℕ) (extends : V → List ℕ → V → Type 0) (law : (v w : V) (ys : List ℕ) → extends v ys w → items w ≡ items v ++ ys)
+    (xs : List (Result ℕ E)) (b v : V) → FoldsTo (λ p x q. (y : ℕ) × (Ok y ≡ x) × extends p (y ∷ []) q) b xs v → (ys : List ℕ) × (xs ≡ map Ok ys) × (items v ≡ items b ++ ys)
 values items extends law [] b v e = ([], refl, ap items (sym e) ∙ sym (append-nil (items b)))
 values items extends law (x ∷ xs) b v e =
     let later = values items extends law xs e.0 v e.2 in

@@ -9,7 +9,9 @@ use Rattle.command.proofs.Gathering.{Source}
 use Rattle.command.specs.Words.{FirstWord, Words}
 
 -- what `split_whitespace` says of an item
-pub first_word : (bs w rest : List ℕ) → (gap : List ℕ) × (bs ≡ gap ++ (w ++ rest)) × (0 < length w) × NoCharPasses is_not_whitespace gap × NoCharPasses is_whitespace w × ((more : List ℕ) × EmptyOrStartsWithPassing is_whitespace rest more) → FirstWord bs w rest
+pub first_word : (bs w rest : List ℕ) → (gap : List ℕ) × (bs ≡ gap ++ (w ++ rest)) × (0 < length w)
+    × NoCharPasses is_not_whitespace gap × NoCharPasses is_whitespace w
+    × ((more : List ℕ) × EmptyOrStartsWithPassing is_whitespace rest more) → FirstWord bs w rest
 first_word bs w rest cut = record { gap = cut.0; cut = cut.1; some = cut.2; blank = cut.3; solid = cut.4; ends = cut.5 }
 
 after_chars : (cs bs rest : List ℕ) → IsUtf8 bs → bs ≡ encode_utf8_all cs ++ rest → IsUtf8 rest
@@ -22,7 +24,8 @@ after_none p xs bs rest h u e = after_chars h.0 bs rest u (e ∙ ap (λ ys. ys +
 
 -- what follows a word of a text is a text
 pub after_word : (bs w rest : List ℕ) → FirstWord bs w rest → IsUtf8 bs → IsUtf8 rest
-after_word bs w rest h u = after_none is_whitespace w (w ++ rest) rest h.solid (after_none is_not_whitespace h.gap bs (w ++ rest) h.blank u h.cut) refl
+after_word bs w rest h u =
+    after_none is_whitespace w (w ++ rest) rest h.solid (after_none is_not_whitespace h.gap bs (w ++ rest) h.blank u h.cut) refl
 
 -- bs goes on with a word that has begun, which may end at once
 record InWord (bs : List ℕ) : Type 0 where
@@ -71,7 +74,8 @@ module _ (c : ℕ) (bs : List ℕ) where
   }
 
 whole : (bs : List ℕ) (i : InWord bs) → 0 < length i.word → (ws : List (List ℕ)) × Words bs ws
-whole bs i some = (i.word ∷ i.later.0, (i.rest, record { gap = []; cut = i.cut; some = some; blank = ([], refl, tt); solid = i.solid; ends = i.ends }, i.later.1))
+whole bs i some =
+    (i.word ∷ i.later.0, (i.rest, record { gap = []; cut = i.cut; some = some; blank = ([], refl, tt); solid = i.solid; ends = i.ends }, i.later.1))
 
 words_of_chars : (cs : List ℕ) → all_scalars cs ≡ true → ((ws : List (List ℕ)) × Words (encode_utf8_all cs) ws) × InWord (encode_utf8_all cs)
 unfolding ended longer

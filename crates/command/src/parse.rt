@@ -20,7 +20,8 @@ fn before_comment(line: &str) -> &str
 
 // The command of a line, and none where the line is blank or only a comment.
 pub fn parse(heap: Global, line: &str) -> Result<Option<Command>, ParseError>
-    ensures { IfMemorySuffices result (λ answer. (text : List ℕ) × (ws : List (List ℕ)) × BeforeComment line.now text × Words text ws × (option_map meant (result_transpose answer) ≡ says ws)) }
+    ensures { IfMemorySuffices result (λ answer. (text : List ℕ) × (ws : List (List ℕ))
+        × BeforeComment line.now text × Words text ws × (option_map meant (result_transpose answer) ≡ says ws)) }
 {
     let mut words = before_comment(line).split_whitespace();
     let Some(name) = words.next() else {
@@ -28,5 +29,5 @@ pub fn parse(heap: Global, line: &str) -> Result<Option<Command>, ParseError>
     };
     let verb = name.parse::<Verb>()?;
     let numbers = numbers(heap, words)?;
-    Ok(Some(command(heap, verb, numbers.as_slice())?))
+    Ok(Some(command(heap, verb, &numbers)?))
 }

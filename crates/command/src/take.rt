@@ -16,8 +16,10 @@ fn narrow(number: u32) -> Result<u16, ParseError>
     u16::try_from(number).map_err(|_| LineFault::NoNumber.into())
 }
 
+// The numbers in 16 bits, if each of them fits.
 fn narrowed(heap: Global, numbers: &[u32]) -> Result<Vec<u16>, ParseError>
-    ensures { IfMemorySuffices result (λ found. result_map_both vec_items (λ fault. fault) found ≡ (if all_narrow numbers.now then Ok numbers.now else Err NoNumber)) }
+    ensures { IfMemorySuffices result (λ found. result_map_both vec_items (λ fault. fault) found
+        ≡ (if all_narrow numbers.now then Ok numbers.now else Err NoNumber)) }
 {
     numbers.iter().map(|x| narrow(*x)).try_collect(heap)
 }
@@ -27,29 +29,29 @@ pub(crate) fn command(heap: Global, verb: Verb, numbers: &[u32]) -> Result<Comma
     ensures { IfMemorySuffices result (λ answer. meant answer ≡ taking verb numbers.now) }
 {
     Ok(match (verb, numbers) {
-        (Verb::Card, numbers) => Command::Card(narrowed(heap, numbers)?),
-        (Verb::Ring, [n]) => Command::Ring(*n),
-        (Verb::LeaveOut, [mask]) => Command::LeaveOut(*mask),
-        (Verb::Join, [variable, low, high]) => Command::Join {
-            variable: *variable,
-            low: narrow(*low)?,
-            high: narrow(*high)?,
+        (Verb::Card, words) => Command::Card(narrowed(heap, words)?),
+        (Verb::Ring, &[n]) => Command::Ring(n),
+        (Verb::LeaveOut, &[mask]) => Command::LeaveOut(mask),
+        (Verb::Join, &[variable, low, high]) => Command::Join {
+            variable,
+            low: narrow(low)?,
+            high: narrow(high)?,
         },
         (Verb::Task, []) => Command::Ask(Query::Task),
-        (Verb::Follow, numbers) => Command::Ask(Query::Follow(narrowed(heap, numbers)?)),
-        (Verb::Image, [variable, value]) => Command::Ask(Query::Image {
-            variable: *variable,
-            value: narrow(*value)?,
+        (Verb::Follow, operators) => Command::Ask(Query::Follow(narrowed(heap, operators)?)),
+        (Verb::Image, &[variable, value]) => Command::Ask(Query::Image {
+            variable,
+            value: narrow(value)?,
         }),
-        (Verb::Frame, [mask]) => Command::Ask(Query::Frame(*mask)),
-        (Verb::Code, [mask, values @ ..]) => Command::Ask(Query::Code {
-            mask: *mask,
+        (Verb::Frame, &[mask]) => Command::Ask(Query::Frame(mask)),
+        (Verb::Code, &[mask, ref values @ ..]) => Command::Ask(Query::Code {
+            mask,
             values: narrowed(heap, values)?,
         }),
-        (Verb::Step, [mask, code, operator]) => Command::Ask(Query::Step {
-            mask: *mask,
-            code: *code,
-            operator: *operator,
+        (Verb::Step, &[mask, code, operator]) => Command::Ask(Query::Step {
+            mask,
+            code,
+            operator,
         }),
         _ => return Err(LineFault::WrongCount.into()),
     })

@@ -23,7 +23,8 @@ fn number(word: &str) -> Result<u32, ParseError>
 // The words that are left, as numbers.
 pub(crate) fn numbers(heap: Global, words: SplitWhitespace<'_>) -> Result<Vec<u32>, ParseError>
     requires { IsUtf8 (split_whitespace_rest words) }
-    ensures { IfMemorySuffices result (λ found. (ws : List (List ℕ)) × Words (split_whitespace_rest words.entry) ws × (result_map_both vec_items (λ fault. fault) found ≡ ok_or (numerals 32 ws) NoNumber)) }
+    ensures { IfMemorySuffices result (λ found. (ws : List (List ℕ)) × Words (split_whitespace_rest words.entry) ws
+        × (result_map_both vec_items (λ fault. fault) found ≡ ok_or (numerals 32 ws) NoNumber)) }
 {
     words.map(number).try_collect(heap)
 }

@@ -13,7 +13,8 @@ returns-in_err-verb c =
     let first = first_word _ name _ c.in-Some.ensures.steps in
     let later = has_words _ (after_word _ name _ first (rw begins c.before_comment.utf8)) in
     let p = err_from_is_err_and c.from_residual.result c.from_residual.ensures.1 in
-    rw (p.1, p.2) (line_says c.before_comment.ensures begins first later.0 later.1 _ (no_command (verb_of name) (numerals 32 later.0) _ c.in_err-verb.ensures.value))
+    rw (p.1, p.2)
+    (line_says c.before_comment.ensures begins first later.0 later.1 _ (no_command (verb_of name) (numerals 32 later.0) _ c.in_err-verb.ensures.value))
 
 pub numbers-requires : goal.numbers-requires
 numbers-requires c =
@@ -26,7 +27,8 @@ returns-in_err-numbers c =
     let begins = c.split_whitespace-words.ensures.rest in
     let first = first_word _ name _ c.in-Some.ensures.steps in
     let p = err_from_is_err_and c.from_residual-in_err-numbers.result c.from_residual-in_err-numbers.ensures.1 in
-    rw (p.1, p.2) (at_fault _ _ c.in_err-numbers.field-0.0 c.in_err-numbers.ensures (λ fault h. line_says c.before_comment.ensures begins first h.0 h.1 _ (no_number (verb_of name) (numerals 32 h.0) _ fault c.in_ok-verb.ensures.value h.2)))
+    rw (p.1, p.2) (at_fault _ _ c.in_err-numbers.field-0.0 c.in_err-numbers.ensures (λ fault h.
+    line_says c.before_comment.ensures begins first h.0 h.1 _ (no_number (verb_of name) (numerals 32 h.0) _ fault c.in_ok-verb.ensures.value h.2)))
 
 pub returns-in_err-command : goal.returns-in_err-command
 returns-in_err-command c =
@@ -35,8 +37,9 @@ returns-in_err-command c =
     let first = first_word _ name _ c.in-Some.ensures.steps in
     let h = c.in_ok-numbers.ensures in
     let p = err_from_is_err_and c.from_residual-in_err-command.result c.from_residual-in_err-command.ensures.1 in
-    let says = taken (verb_of name) (numerals 32 h.0) _ c.as_slice.result.now c.in_ok-verb.ensures.value (rw c.as_slice.ensures.value h.2) in
-    rw (p.1, p.2) (at_fault _ _ c.in_err-command.field-0.0 c.in_err-command.ensures (λ fault e. line_says c.before_comment.ensures begins first h.0 h.1 _ (e ∙ says)))
+    let says = taken (verb_of name) (numerals 32 h.0) _ c.deref.result.now c.in_ok-verb.ensures.value (rw c.deref.ensures.value h.2) in
+    rw (p.1, p.2) (at_fault _ _ c.in_err-command.field-0.0 c.in_err-command.ensures (λ fault e.
+    line_says c.before_comment.ensures begins first h.0 h.1 _ (e ∙ says)))
 
 pub returns : goal.returns
 returns c =
@@ -44,5 +47,5 @@ returns c =
     let begins = c.split_whitespace-words.ensures.rest in
     let first = first_word _ name _ c.in-Some.ensures.steps in
     let h = c.in_ok-numbers.ensures in
-    let says = taken (verb_of name) (numerals 32 h.0) _ c.as_slice.result.now c.in_ok-verb.ensures.value (rw c.as_slice.ensures.value h.2) in
+    let says = taken (verb_of name) (numerals 32 h.0) _ c.deref.result.now c.in_ok-verb.ensures.value (rw c.deref.ensures.value h.2) in
     line_says c.before_comment.ensures begins first h.0 h.1 _ (c.in_ok-command.ensures ∙ says)

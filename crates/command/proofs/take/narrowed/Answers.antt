@@ -14,6 +14,7 @@ returns c =
     let same = ap iter_rest c.map.ensures.source ∙ c.iter.ensures.rest in
     if_memory-weaker r _ _
     (gathered slices _ _ (λ x. cond (narrow x) (Ok x) (Err NoNumber))
-    (λ x r q k. let e : r ≡ cond (narrow x.now) (Ok x.now) (Err (Line NoNumber)) = search rules in (refl, e ∙ told_if (narrow x.now) x.now NoNumber))
+    (λ x r q k. let e : r ≡ cond (narrow x.now) (Ok x.now) (Err (Line NoNumber)) = search rules in
+    (refl, e ∙ told_if (narrow x.now) x.now NoNumber))
     c.map.result r c.map.ensures.closure tt c.try_collect.ensures.ran c.try_collect.ensures.err)
     (λ found p. p.2 ∙ gathers-narrow p.0 ∙ ap (λ xs. cond (all_narrow xs) (Ok xs) (Err NoNumber)) (sym p.1 ∙ same))
