@@ -2,3 +2,5 @@ pub mod Measuring
 pub mod Faulting
 pub mod Filling
 pub mod Stepping
+pub mod Asking
+pub mod Summing

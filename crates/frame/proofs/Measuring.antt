@@ -1,10 +1,11 @@
 -- The sizes and strides of a frame, variable by variable.
-use Rattle.std.proofs.Common.{◌≡◌, ℕ, suc, ◌+◌, ◌*◌, ◌<◌, ◌≤◌, true, false, ltb, List, length, get_or, set, sym, ap, ◌∙◌, subst, ⊎_elim, add-zero, mul-one, arith, get_or-set_other, get_or-set_same}
+use Rattle.std.proofs.Common.{◌≡◌, ℕ, suc, ◌+◌, ◌*◌, ◌<◌, ◌≤◌, true, false, ltb, List, length, get_or, set, replicate, sym, ap, ◌∙◌, subst, ⊎_elim, mul-one, arith, get_or-set_other, get_or-set_same}
 use mathlib.Core.Path.{fun_ext}
+use Rattle.std.proofs.lemmas.List.{get_or-replicate}
 use Rattle.std.proofs.lemmas.Bool.{cases_lt, cases_eq, cond-true, cond-false, lt-ltb, le-ltb}
-use Rattle.model.specs.Tasks.{Task, Position, Lawful}
+use Rattle.model.specs.Tasks.{Task, Lawful}
 use Rattle.model.specs.LeaveOut.{has}
-use Rattle.model.specs.Frames.{width_by, code_by}
+use Rattle.model.specs.Frames.{width_by}
 use Rattle.model.proofs.Coding.{width_by_up}
 use Rattle.frame.specs.Held.{size_in, Sized, Strided, Small}
 
@@ -17,6 +18,10 @@ size_in_past sizes v h = cond-false (ltb v 32) (get_or sizes v 0) 1 (le-ltb v 32
 -- a list that has each size of a lawful task gives the task's sizes
 pub sizes_all : (t : Task) → Lawful t → (sizes : List ℕ) → ((v : ℕ) → v < 32 → size_in sizes v ≡ t.size v) → size_in sizes ≡ t.size
 sizes_all t law sizes h = fun_ext (λ v. ⊎_elim (h v) (λ l. size_in_past sizes v l ∙ sym (law.outside v (omega (arith, law.variables.1)))) (cases_lt v 32))
+
+-- a list of 32 ones
+pub ones : (v : ℕ) → v < 32 → get_or {A = ℕ} (replicate 32 1) v 0 ≡ 1
+ones v h = get_or-replicate 32 v 1 0 h
 
 -- one variable more, in the mask or not
 module _ (size : ℕ → ℕ) (mask v : ℕ) where
@@ -51,15 +56,6 @@ module _ (sizes : List ℕ) (mask v : ℕ) where
       (λ q. ap (λ w. get_or (set strides v s) w 0) q ∙ get_or-set_same strides v s 0 l ∙ e ∙ ap W (sym q))
       (λ n. get_or-set_other strides v u s 0 n ∙ low u (omega arith))
       (cases_eq u v)
-
--- ---- codes, one variable more
-
-module _ (size : ℕ → ℕ) (mask : ℕ) (p : Position) (v : ℕ) where
-  pub code_in : has mask v ≡ true → code_by size mask p (v + 1) ≡ code_by size mask p v + p v * width_by size mask v
-  code_in e = let n : v + 1 ≡ suc v = omega arith in ap (code_by size mask p) n ∙ ap (λ k. code_by size mask p v + k) (cond-true (has mask v) (p v * width_by size mask v) 0 e)
-
-  pub code_out : has mask v ≡ false → code_by size mask p (v + 1) ≡ code_by size mask p v
-  code_out e = let n : v + 1 ≡ suc v = omega arith in ap (code_by size mask p) n ∙ ap (λ k. code_by size mask p v + k) (cond-false (has mask v) (p v * width_by size mask v) 0 e) ∙ add-zero (code_by size mask p v)
 
 -- the sizes in memory are at least 1
 pub size_some : (sizes : List ℕ) → Sized sizes → (v : ℕ) → 1 ≤ size_in sizes v

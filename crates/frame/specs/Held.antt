@@ -1,5 +1,5 @@
 -- What a frame in memory holds.
-use Rattle.std.specs.Prelude.{◌≡◌, ℕ, suc, ◌<◌, ◌≤◌, cond, List, Ok, Err, Result, nat_lt, slice_index}
+use Rattle.std.specs.Prelude.{◌≡◌, ℕ, suc, ◌<◌, ◌≤◌, cond, List, nat_lt, slice_index}
 use Rattle.model.specs.Frames.{width_by}
 
 -- the sizes that a list of 32 gives: its entries, and 1 past them
@@ -21,8 +21,3 @@ OnesFrom n strides = (v : ℕ) → n ≤ v → v < 32 → slice_index strides v 
 -- the product is within the limit up to each variable below n
 abbrev pub Small : List ℕ → ℕ → ℕ → Type 0
 Small sizes mask n = (v : ℕ) → v < n → width_by (size_in sizes) mask (suc v) ≤ 16384
-
--- the strides of the variables below n and the product of all of them, or the lowest variable at which it passes the limit
-abbrev pub Measured : List ℕ → ℕ → ℕ → List ℕ → Result ℕ ℕ → Type 0
-Measured sizes mask n strides (Ok size) = Strided sizes mask n strides × (size ≡ width_by (size_in sizes) mask n) × (size ≤ 16384)
-Measured sizes mask n strides (Err v) = (v < n) × (16384 < width_by (size_in sizes) mask (suc v)) × Small sizes mask v

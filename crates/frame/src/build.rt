@@ -29,8 +29,7 @@ impl Frame {
         ensures frames { Frames (S.TaskSource.task source.now) mask result }
         ensures holds { MatchResult result (λ _. (self.new.mask ≡ mask) × (self.new.n ≡ (S.TaskSource.task source.now).n) × (size_in self.new.sizes ≡ (S.TaskSource.task source.now).size)) (λ _. self.new ≡ self.old) }
     {
-        let frame = build(source, mask)?;
-        *self = frame;
+        *self = build(source, mask)?;
         Ok(())
     }
 }
@@ -47,15 +46,12 @@ fn build<S: TaskSource>(source: &S, mask: u32) -> Result<Frame, FrameFault>
         return Err(FrameFault::NoSuchVariable(v));
     }
     let sizes = sizes_of(source);
-    let mut strides = [1; 32];
-    match measure(&sizes, mask, n, &mut strides) {
-        Ok(size) => Ok(Frame {
-            n,
-            mask,
-            sizes,
-            strides,
-            size,
-        }),
-        Err(v) => Err(FrameFault::TooLarge(v)),
-    }
+    let (strides, size) = measure(&sizes, mask, n)?;
+    Ok(Frame {
+        n,
+        mask,
+        sizes,
+        strides,
+        size,
+    })
 }

@@ -5,6 +5,7 @@ ghost use Rattle.model.specs.Frames.{code_by, values_by};
 ghost use Rattle.frame.specs.Held.{size_in};
 
 use crate::frame::Frame;
+use std::array;
 use task::mask::contains;
 use task::words::word;
 
@@ -33,13 +34,10 @@ impl Frame {
     pub fn code(&self, values: &[u16]) -> usize
         ensures { result ≡ code_by (size_in self.now.sizes) self.now.mask (position values.now) self.now.n }
     {
-        let mut code = 0;
-        for v in 0..self.n {
-            if contains(self.mask, v) {
-                code += (word(values, v) as usize) * (self.strides[v] as usize);
-            }
-        }
-        code
+        (0..self.n)
+            .filter(|v| contains(self.mask, *v))
+            .map(|v| word(values, v) as usize * self.strides[v] as usize)
+            .sum()
     }
 
     // The value of the variable v in a code, and 0 of a variable that is not in the frame.
@@ -53,30 +51,17 @@ impl Frame {
         }
     }
 
-    // The position that a code stands for, from as many variables as have all of the frame's.
-    fn values_below(&self, code: usize, n: usize) -> [u16; 32]
-        requires { (n ≤ 32) × (self.now.mask < 2 ^ n) }
-        ensures { position result ≡ values_by (size_in self.now.sizes) self.now.mask code }
-    {
-        let mut values = [0; 32];
-        for v in 0..n {
-            values[v] = self.value(code, v);
-        }
-        values
-    }
-
     // The position that a code stands for.
     pub fn values(&self, code: usize) -> [u16; 32]
         ensures { position result ≡ values_by (size_in self.now.sizes) self.now.mask code }
     {
-        self.values_below(code, self.n)
+        array::from_fn(|v| self.value(code, v))
     }
 
     // The code, in a frame that lies inside, of the values that a code of this frame stands for.
     pub fn code_inside(&self, inner: &Frame, code: usize) -> usize
         ensures { result ≡ code_by (size_in inner.now.sizes) inner.now.mask (values_by (size_in self.now.sizes) self.now.mask code) inner.now.n }
     {
-        let values = self.values(code);
-        inner.code(&values)
+        inner.code(&self.values(code))
     }
 }

@@ -12,15 +12,6 @@ impl Frame {
     pub fn meets_goal<S: TaskSource>(&self, source: &S, c: usize) -> bool
         ensures { Decides result (IsGoal (onto self.now.mask (S.TaskSource.task source.now)) (values_by (size_in self.now.sizes) self.now.mask c)) }
     {
-        let n = self.n;
-        for v in 0..n {
-            let Some(x) = self.kept(v, source.goal(v)) else {
-                continue;
-            };
-            if self.value(c, v) != x {
-                return false;
-            }
-        }
-        true
+        (0..self.n).all(|v| self.holds(c, v, source.goal(v)))
     }
 }

@@ -1,7 +1,10 @@
 // The sizes of a task's variables, and the strides of a mask.
-ghost use Rattle.std.specs.Prelude.{◌≡◌, ℕ, ◌≤◌, slice_index};
-ghost use Rattle.frame.specs.Held.{size_in, Sized, Measured};
+ghost use Rattle.std.specs.Prelude.{◌≡◌, ◌≤◌};
+ghost use Rattle.frame.specs.Held.{size_in, Sized};
+ghost use Rattle.frame.specs.Wrong.{Measured};
 
+use crate::fault::FrameFault;
+use std::array;
 use task::mask::contains;
 use task::moves::{MAX_VARIABLES, size_or_one};
 use task::source::TaskSource;
@@ -13,34 +16,32 @@ const LIMIT: u32 = 16_384;
 pub fn sizes_of<S: TaskSource>(source: &S) -> [u16; MAX_VARIABLES]
     ensures { size_in result ≡ (S.TaskSource.task source.now).size }
 {
-    let mut sizes = [1; MAX_VARIABLES];
-    for v in 0..MAX_VARIABLES {
-        sizes[v] = size_or_one(source, v);
-    }
-    sizes
+    array::from_fn(|v| size_or_one(source, v))
 }
 
-// Writes the stride of each of n variables: the product of the sizes of the mask's lower variables. Answers the product of all of them,
-// or the variable at which it passes the limit.
+// The stride of each of n variables, the product of the sizes of the mask's lower variables, and 1 past them; and the product of all of
+// them. Declined at the variable at which it passes the limit.
+#[tactic(auto, using(crate::proofs::Measuring::ones))]
 pub(crate) fn measure(
-    sizes: &[u16; 32],
+    sizes: &[u16; MAX_VARIABLES],
     mask: u32,
     n: usize,
-    strides: &mut [u32; 32],
-) -> Result<u32, usize>
-    requires { (Sized sizes.now) × (n ≤ 32) }
-    ensures measured { Measured sizes.now mask n strides.new result }
-    ensures rest { (v : ℕ) → n ≤ v → slice_index strides.new v ≡ slice_index strides.old v }
+) -> Result<([u32; MAX_VARIABLES], u32), FrameFault>
+    requires sized { Sized sizes.now }
+    requires few { n ≤ 32 }
+    ensures { Measured sizes.now mask n result }
 {
+    let mut strides = [1; MAX_VARIABLES];
     let mut size = 1;
+    // A loop, not a chain: the running product's bound is its invariant.
     for v in 0..n {
         strides[v] = size;
         if contains(mask, v) {
             size *= sizes[v] as u32;
             if size > LIMIT {
-                return Err(v);
+                return Err(FrameFault::TooLarge(v));
             }
         }
     }
-    Ok(size)
+    Ok((strides, size))
 }

@@ -1,38 +1,25 @@
-use Rattle.std.proofs.Common.{◌≡◌, ◌*◌, get_or, sym, ap, ◌∙◌, arith}
-use Rattle.std.proofs.lemmas.Nat.{mul-le}
+use Rattle.std.proofs.Common.{◌*◌, get_or, refl, rules, arith, ◌∙◌}
+use Rattle.std.proofs.lemmas.Iterator.{YieldsList-from_map, YieldsList-from_range}
+use Rattle.std.proofs.lemmas.Iterator.Consumers.{YieldsList-at, YieldsList-from_filter, sum_by_from_yields_List, fits_by_from_yields_list}
 use Rattle.model.specs.Tasks.{position}
-use Rattle.model.specs.Frames.{width_by, code_by}
+use Rattle.model.specs.LeaveOut.{has}
 use Rattle.frame.specs.Held.{size_in}
-use Rattle.frame.proofs.Measuring.{code_in, code_out, stride_small}
+use Rattle.frame.proofs.Summing.{those, code_sum, code_small}
+use Rattle.frame.proofs.Measuring.{stride_small}
 use Rattle.frame.proofs.frame.Frame.code.Goals as goal
-use Rattle.frame.proofs.frame.Frame.code.Goals.{then-contains, else-contains}
 
-pub overflow_add-code : goal.overflow_add-code
-overflow_add-code c =
-    let s = c.args.self.now in
-    let v = c.loop-v.v in
-    let small = stride_small s.sizes s.mask s.n s.size v s.sized s.whole s.small (omega arith) in
-    let k = mul-le c.word.result (get_or s.strides v 0) 65535 16384 (omega arith) (omega (arith, s.strided v c.loop-v-test.true, small.1)) in
-    omega (arith, k, c.loop-v.invariant.1, s.few)
-
-pub loop-v-preserved : goal.loop-v-preserved
-loop-v-preserved c =
+pub sum-requires-clause-fits : goal.sum-requires-clause-fits
+sum-requires-clause-fits c =
     let s = c.args.self.now in
     let p = position c.args.values.now in
-    let v = c.loop-v.v in
-    let small = stride_small s.sizes s.mask s.n s.size v s.sized s.whole s.small (omega arith) in
-    elim c.if-contains.branch [
-      | then-contains w ↦
-          let k = mul-le w.word.result (get_or s.strides v 0) 65535 16384 (omega arith) (omega (arith, s.strided v c.loop-v-test.true, small.1)) in
-          let digit : w.word.result * get_or s.strides v 0 ≡ p v * width_by (size_in s.sizes) s.mask v = ap (λ x. x * get_or s.strides v 0) w.word.ensures ∙ ap (λ x. p v * x) (s.strided v c.loop-v-test.true) in
-          let code = code_in (size_in s.sizes) s.mask p v (sym w.if-contains.ensures) in
-          (omega (arith, w.code-is, c.loop-v.invariant.0, digit, code), omega (arith, w.code-is, c.loop-v.invariant.1, k))
-      | else-contains w ↦
-          (w.code-is ∙ c.loop-v.invariant.0 ∙ sym (code_out (size_in s.sizes) s.mask p v (sym w.if-contains.ensures)), omega (arith, w.code-is, c.loop-v.invariant.1))
-    ]
+    fits_by_from_yields_list (λ v. p v * get_or s.strides v 0) (those s.mask s.n) c.map.result _
+    (YieldsList-from_map _ (λ v. p v * get_or s.strides v 0) (YieldsList-at c.map.ensures.source (YieldsList-from_filter _ (has s.mask) (YieldsList-at c.filter.ensures.source (YieldsList-from_range 0 s.n s.n refl (omega arith))) c.filter.ensures.closure (λ x b q k. search rules))) c.map.ensures.closure (λ x r q k. search rules))
+    (omega (arith, code_sum (size_in s.sizes) s.mask p (λ v. get_or s.strides v 0) s.n s.strided, code_small (size_in s.sizes) s.mask p s.n (λ v. omega (arith, c.type_inv.values v)) (λ v l. (stride_small s.sizes s.mask s.n s.size v s.sized s.whole s.small (omega arith)).1), s.few))
 
 pub returns : goal.returns
 returns c =
     let s = c.args.self.now in
-    let e : c.loop-v.v ≡ s.n = omega arith in
-    c.loop-v.invariant.0 ∙ ap (code_by (size_in s.sizes) s.mask (position c.args.values.now)) e
+    let p = position c.args.values.now in
+    sum_by_from_yields_List (λ v. p v * get_or s.strides v 0) (those s.mask s.n) c.map.result _ c.sum.ensures.ran
+    (YieldsList-from_map _ (λ v. p v * get_or s.strides v 0) (YieldsList-at c.map.ensures.source (YieldsList-from_filter _ (has s.mask) (YieldsList-at c.filter.ensures.source (YieldsList-from_range 0 s.n s.n refl (omega arith))) c.filter.ensures.closure (λ x b q k. search rules))) c.map.ensures.closure (λ x r q k. search rules))
+    ∙ code_sum (size_in s.sizes) s.mask p (λ v. get_or s.strides v 0) s.n s.strided

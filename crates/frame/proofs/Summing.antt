@@ -1,0 +1,45 @@
+-- A code as a sum over the variables of a mask.
+use Rattle.std.proofs.Common.{◌≡◌, ℕ, zero, suc, ◌+◌, ◌*◌, ◌<◌, ◌≤◌, Bool, true, false, cond, List, [], ◌∷◌, ◌++◌, refl, sym, ap, ◌∙◌, arith}
+use mathlib.Core.List.{map-id}
+use Rattle.std.specs.List.{filter, range_with_len, sum_by}
+use Rattle.std.proofs.lemmas.Nat.{mul-le}
+use Rattle.std.proofs.lemmas.List.FromFn.{filter_of_map_range_with_len_more}
+use Rattle.std.proofs.lemmas.List.Sums.{sum_by-append, sum_by-cons}
+use Rattle.model.specs.Tasks.{Position}
+use Rattle.model.specs.LeaveOut.{has}
+use Rattle.model.specs.Frames.{width_by, code_by}
+
+-- the variables below n of a mask, ascending
+abbrev pub those : ℕ → ℕ → List ℕ
+those mask n = filter (has mask) (range_with_len 0 n)
+
+module _ (mask n : ℕ) where
+  those_more : those mask (suc n) ≡ those mask n ++ cond (has mask n) (n ∷ []) []
+  those_more =
+      let e : suc n ≡ n + 1 = omega arith in
+      ap (those mask) e ∙ ap (filter (has mask)) (sym (map-id (range_with_len 0 (n + 1)))) ∙ filter_of_map_range_with_len_more (has mask) (λ v. v) 0 n n (omega arith)
+      ∙ ap (λ vs. filter (has mask) vs ++ cond (has mask n) (n ∷ []) []) (map-id (range_with_len 0 n))
+
+  one : (f : ℕ → ℕ) (b : Bool) → sum_by f (cond b (n ∷ []) []) ≡ cond b (f n) 0
+  one f true = omega (arith, sum_by-cons f n [])
+  one f false = refl
+
+  sum_more : (f : ℕ → ℕ) → sum_by f (those mask (suc n)) ≡ sum_by f (those mask n) + cond (has mask n) (f n) 0
+  sum_more f = ap (sum_by f) those_more ∙ sum_by-append f (those mask n) (cond (has mask n) (n ∷ []) []) ∙ ap (λ x. sum_by f (those mask n) + x) (one f (has mask n))
+
+module _ (size : ℕ → ℕ) (mask : ℕ) (p : Position) where
+  -- the sum is the code, where each stride is the product of the sizes of the lower variables
+  pub code_sum : (stride : ℕ → ℕ) (n : ℕ) → ((v : ℕ) → v < n → stride v ≡ width_by size mask v) → sum_by (λ v. p v * stride v) (those mask n) ≡ code_by size mask p n
+  code_sum stride zero e = refl
+  code_sum stride (suc n) e =
+      sum_more mask n (λ v. p v * stride v)
+      ∙ ap (λ x. x + cond (has mask n) (p n * stride n) 0) (code_sum stride n (λ v h. e v (omega arith)))
+      ∙ ap (λ w. code_by size mask p n + cond (has mask n) (p n * w) 0) (e n (omega arith))
+
+  digit : (b : Bool) (x : ℕ) → x ≤ 1073741824 → cond b x 0 ≤ 1073741824
+  digit true x h = h
+  digit false x h = omega arith
+
+  pub code_small : (n : ℕ) → ((v : ℕ) → p v ≤ 65535) → ((v : ℕ) → v < n → width_by size mask v ≤ 16384) → code_by size mask p n ≤ n * 1073741824
+  code_small zero h w = omega arith
+  code_small (suc n) h w = omega (arith, code_small n h (λ v l. w v (omega arith)), digit (has mask n) (p n * width_by size mask n) (omega (arith, mul-le (p n) (width_by size mask n) 65535 16384 (h n) (w n (omega arith)))))
