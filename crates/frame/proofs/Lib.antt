@@ -4,3 +4,4 @@ pub mod Filling
 pub mod Stepping
 pub mod Asking
 pub mod Summing
+pub mod Framed

@@ -28,13 +28,10 @@ module _ (mask n : ℕ) where
   sum_more f = ap (sum_by f) those_more ∙ sum_by-append f (those mask n) (cond (has mask n) (n ∷ []) []) ∙ ap (λ x. sum_by f (those mask n) + x) (one f (has mask n))
 
 module _ (size : ℕ → ℕ) (mask : ℕ) (p : Position) where
-  -- the sum is the code, where each stride is the product of the sizes of the lower variables
-  pub code_sum : (stride : ℕ → ℕ) (n : ℕ) → ((v : ℕ) → v < n → stride v ≡ width_by size mask v) → sum_by (λ v. p v * stride v) (those mask n) ≡ code_by size mask p n
-  code_sum stride zero e = refl
-  code_sum stride (suc n) e =
-      sum_more mask n (λ v. p v * stride v)
-      ∙ ap (λ x. x + cond (has mask n) (p n * stride n) 0) (code_sum stride n (λ v h. e v (omega arith)))
-      ∙ ap (λ w. code_by size mask p n + cond (has mask n) (p n * w) 0) (e n (omega arith))
+  -- the sum is the code
+  pub code_sum : (n : ℕ) → sum_by (λ v. p v * width_by size mask v) (those mask n) ≡ code_by size mask p n
+  code_sum zero = refl
+  code_sum (suc n) = sum_more mask n (λ v. p v * width_by size mask v) ∙ ap (λ x. x + cond (has mask n) (p n * width_by size mask n) 0) (code_sum n)
 
   digit : (b : Bool) (x : ℕ) → x ≤ 1073741824 → cond b x 0 ≤ 1073741824
   digit true x h = h

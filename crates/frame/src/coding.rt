@@ -1,7 +1,7 @@
 // The code of a position in a frame, and the values that a code stands for.
-ghost use Rattle.std.specs.Prelude.{◌≡◌, ◌^◌, ◌<◌, ◌≤◌};
+ghost use Rattle.std.specs.Prelude.{◌≡◌, ◌*◌, ◌<◌};
 ghost use Rattle.model.specs.Tasks.{position};
-ghost use Rattle.model.specs.Frames.{code_by, values_by};
+ghost use Rattle.model.specs.Frames.{width_by, code_by, values_by};
 ghost use Rattle.frame.specs.Held.{size_in};
 
 use crate::frame::Frame;
@@ -30,22 +30,31 @@ impl Frame {
         self.size as usize
     }
 
-    // The sum of each value of the frame's variables times the product of the sizes of the frame's lower variables.
+    // The sum of what each of the frame's variables adds.
     pub fn code(&self, values: &[u16]) -> usize
         ensures { result ≡ code_by (size_in self.now.sizes) self.now.mask (position values.now) self.now.n }
     {
         (0..self.n)
             .filter(|v| contains(self.mask, *v))
-            .map(|v| word(values, v) as usize * self.strides[v] as usize)
+            .map(|v| self.digit(values, v))
             .sum()
     }
 
+    // What the value of the variable v adds to a code: itself times the product of the sizes of the frame's lower variables.
+    fn digit(&self, values: &[u16], v: usize) -> usize
+        requires { v < self.now.n }
+        ensures { result ≡ position values.now v * width_by (size_in self.now.sizes) self.now.mask v }
+    {
+        word(values, v) as usize * self.strides[v] as usize
+    }
+
     // The value of the variable v in a code, and 0 of a variable that is not in the frame.
+    #[tactic(auto, using(crate::proofs::Framed::stride_some, crate::proofs::Framed::in_frame, crate::proofs::Framed::value_in))]
     pub fn value(&self, code: usize, v: usize) -> u16
         ensures { result ≡ values_by (size_in self.now.sizes) self.now.mask code v }
     {
-        if v < self.n && contains(self.mask, v) {
-            (code / (self.strides[v] as usize) % (self.sizes[v] as usize)) as u16
+        if contains(self.mask, v) {
+            (code / self.strides[v] as usize % self.sizes[v] as usize) as u16
         } else {
             0
         }

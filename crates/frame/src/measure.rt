@@ -21,7 +21,6 @@ pub fn sizes_of<S: TaskSource>(source: &S) -> [u16; MAX_VARIABLES]
 
 // The stride of each of n variables, the product of the sizes of the mask's lower variables, and 1 past them; and the product of all of
 // them. Declined at the variable at which it passes the limit.
-#[tactic(auto, using(crate::proofs::Measuring::ones))]
 pub(crate) fn measure(
     sizes: &[u16; MAX_VARIABLES],
     mask: u32,

@@ -13,4 +13,4 @@ returns c =
     let p = values_by (size_in s.sizes) s.mask c.args.code in
     let xs = c.from_fn.result in
     position_all p xs 32 (filled p (λ v y q k. search rules) xs 32 c.from_fn.ensures.items) (λ v h. get_or_past xs v 0 (omega (arith, c.from_fn.ensures.items.long)))
-    (λ v h. values_past s.mask s.n s.legal (size_in s.sizes) c.args.code v (omega arith))
+    (λ v h. values_past s c.args.code v (omega (arith, s.few)))
