@@ -44,7 +44,7 @@ impl Claim<'_, '_, '_, '_> {
 
     // Whether the operator o leads from the code c to one that is neither claimed nor covered.
     fn leads_out<S: TaskSource>(&self, source: &S, c: usize, o: usize) -> bool
-        ensures { Fits (S.TaskSource.task source.now) self.now.frame.now self.now.shelves.records.now → Decides result (Leaves (S.TaskSource.task source.now) (shelves_of self.now.shelves.pool.now self.now.shelves.records.now) self.now.frame.now.mask (bit_of self.now.bytes.now) c o) }
+        ensures { let q = self.now in let t = S.TaskSource.task source.now in Fits t q.frame.now q.shelves.records.now → Decides result (Leaves t (shelves_of q.shelves.pool.now q.shelves.records.now) q.frame.now.mask (bit_of q.bytes.now) c o) }
     {
         // A match, not `is_some_and`: in a generic function a proof learns nothing from a closure that borrows the claim.
         match self.frame.step(source, o, c) {
@@ -56,7 +56,7 @@ impl Claim<'_, '_, '_, '_> {
     // Accepts a set that is closed over the shelves of smaller frames. The lowest code at which it is not decides: that it meets the goal,
     // or else the lowest operator that leads out.
     pub fn check<S: TaskSource>(&self, source: &S) -> Result<(), RegisterFault>
-        ensures { Fits (S.TaskSource.task source.now) self.now.frame.now self.now.shelves.records.now → Checks (SetWrong (S.TaskSource.task source.now) (shelves_of self.now.shelves.pool.now self.now.shelves.records.now) self.now.frame.now.mask (bit_of self.now.bytes.now)) result }
+        ensures { let q = self.now in let t = S.TaskSource.task source.now in Fits t q.frame.now q.shelves.records.now → Checks (SetWrong t (shelves_of q.shelves.pool.now q.shelves.records.now) q.frame.now.mask (bit_of q.bytes.now)) result }
     {
         // Labelled loops, not chains: what decides at a code, its goal or an operator, ends the walk over all codes.
         let mut answer = Ok(());

@@ -24,7 +24,7 @@ pub struct Shelves<'r, 'p> {
 impl Shelves<'_, '_> {
     // The number of the shelf of this mask.
     pub fn place_of(&self, mask: u32) -> Option<usize>
-        ensures { (pool : List ℕ) → MatchOption result (place (shelves_of pool self.now.records.now) mask ≡ length self.now.records.now) (λ i. (i < length self.now.records.now) × (place (shelves_of pool self.now.records.now) mask ≡ i)) }
+        ensures { (pool : List ℕ) → let rs = self.now.records.now in let at = place (shelves_of pool rs) mask in MatchOption result (at ≡ length rs) (λ i. (i < length rs) × (at ≡ i)) }
     {
         self.records
             .iter()
