@@ -22,6 +22,47 @@ use Rattle.checks.specs.Faults.{register_turn}
 use Rattle.checks.specs.Wrong.{Open, Leaves, SetWrong, meets, leads}
 use Rattle.checks.specs.Closing.{Fits, code_covered, Sealed}
 
+-- ---- which fault is tried first
+
+-- nothing leads out of the claim's set at the codes below n, nor is a goal met
+abbrev pub SealedBelow : Task → Claim → ℕ → Type 0
+SealedBelow t q n = (k : ℕ) → k < n → Sealed t (shelves_of q.shelves.pool.now q.shelves.records.now) q.frame.now.mask (bit_of q.bytes.now) k
+
+-- none of the operators below m leads out of it at the code c
+abbrev pub KeptBelow : Task → Claim → ℕ → ℕ → Type 0
+KeptBelow t q c m = (o : ℕ) → o < m → Leaves t (shelves_of q.shelves.pool.now q.shelves.records.now) q.frame.now.mask (bit_of q.bytes.now) c o → ⊥
+
+module _ (t : Task) (q : Claim) where
+  abbrev mask : ℕ
+  mask = q.frame.now.mask
+
+  abbrev below : List shelves.Shelf
+  below = shelves_of q.shelves.pool.now q.shelves.records.now
+
+  abbrev set : ℕ → Bool
+  set = bit_of q.bytes.now
+
+  all_sealed : SealedBelow t q (frame_size t mask) → (e : RegisterFault) → SetWrong t below mask set e → ⊥
+  all_sealed low _ (meets c o g) = (low c o.0 o).0 g
+  all_sealed low _ (leads c u o l w) = (low c o.0 o).1 u l w
+
+  first_goal : (c : ℕ) → SealedBelow t q c → Open t below mask set c → IsGoal (onto mask t) (values t mask c) → First register_turn (SetWrong t below mask set) (MeetsGoal c)
+  first_goal c low o g = (meets c o g, go)
+    where
+      go : (e : RegisterFault) → SetWrong t below mask set e → Earlier (register_turn e) (register_turn (MeetsGoal c)) → ⊥
+      go _ (meets k p h) e = ⊎_elim (λ l. omega arith) (λ a. ⊎_elim (λ l. (low k l p).0 h) (λ b. omega (arith, b.1)) a.1) e
+      go _ (leads k u p l w) e = ⊎_elim (λ l. omega arith) (λ a. ⊎_elim (λ l'. (low k l' p).1 u l w) (λ b. omega (arith, b.1)) a.1) e
+
+  first_out : (c o : ℕ) → SealedBelow t q c → Open t below mask set c → (IsGoal (onto mask t) (values t mask c) → ⊥) → o < t.m → Leaves t below mask set c o → KeptBelow t q c o → First register_turn (SetWrong t below mask set) (LeadsOut c o)
+  first_out c o low p none l w least = (leads c o p l w, go)
+    where
+      go : (e : RegisterFault) → SetWrong t below mask set e → Earlier (register_turn e) (register_turn (LeadsOut c o)) → ⊥
+      go _ (meets k p' h) e =
+          ⊎_elim (λ l. omega arith) (λ a. ⊎_elim (λ l'. (low k l' p').0 h) (λ b. none (subst (λ x. IsGoal (onto mask t) (values t mask x)) b.0 h)) a.1) e
+      go _ (leads k u p' m v) e =
+          ⊎_elim (λ l. omega arith)
+          (λ a. ⊎_elim (λ l'. (low k l' p').1 u m v) (λ b. least u (omega (arith, b.1)) (subst (λ x. Leaves t below mask set x u) b.0 v)) a.1) e
+
 -- ---- what the tests of a code tell
 
 module _ (t : Task) (law : Lawful t) (q : Claim) (fits : Fits t q.frame.now q.shelves.records.now) where
@@ -40,21 +81,21 @@ module _ (t : Task) (law : Lawful t) (q : Claim) (fits : Fits t q.frame.now q.sh
   covered_code : (c : ℕ) → code_covered q c ≡ covered t ss f (values t f c)
   covered_code c = covered_same t q.shelves.pool.now q.shelves.records.now f (values_by (size_in frame.sizes) f c) fits.2 ∙ ap (λ size. covered t ss f (values_by size f c)) fits.1
 
-  pub size_same : frame.size ≡ frame_size t f
+  size_same : frame.size ≡ frame_size t f
   size_same = frame.whole ∙ (λ i. width_by (fits.1 i) f (fits.0 i))
 
-  pub is_open : (c : ℕ) → c < frame.size → true ≡ (bit_of bytes c && not (code_covered q c)) → Open t ss f (bit_of bytes) c
+  is_open : (c : ℕ) → c < frame.size → true ≡ (bit_of bytes c && not (code_covered q c)) → Open t ss f (bit_of bytes) c
   is_open c h e =
       let both_hold = true_T (bit_of bytes c && not (code_covered q c)) (sym e) in
       (subst (λ n. c < n) size_same h, both_first (bit_of bytes c) (not (code_covered q c)) both_hold, subst (λ b. T (not b)) (covered_code c) (both_second (bit_of bytes c) (not (code_covered q c)) both_hold))
 
-  pub not_open : (c : ℕ) → false ≡ (bit_of bytes c && not (code_covered q c)) → Open t ss f (bit_of bytes) c → ⊥
+  not_open : (c : ℕ) → false ≡ (bit_of bytes c && not (code_covered q c)) → Open t ss f (bit_of bytes) c → ⊥
   not_open c e o = false≢true (e ∙ T_true (bit_of bytes c && not (code_covered q c)) (both (bit_of bytes c) (not (code_covered q c)) o.1 (subst (λ b. T (not b)) (sym (covered_code c)) o.2)))
 
-  pub goal_same : (c : ℕ) → IsGoal (onto f t) (values t f c) → IsGoal (onto f t) (values_by (size_in frame.sizes) f c)
+  goal_same : (c : ℕ) → IsGoal (onto f t) (values t f c) → IsGoal (onto f t) (values_by (size_in frame.sizes) f c)
   goal_same c h = subst (λ size. IsGoal (onto f t) (values_by size f c)) (sym fits.1) h
 
-  pub goal_there : (c : ℕ) → IsGoal (onto f t) (values_by (size_in frame.sizes) f c) → IsGoal (onto f t) (values t f c)
+  goal_there : (c : ℕ) → IsGoal (onto f t) (values_by (size_in frame.sizes) f c) → IsGoal (onto f t) (values t f c)
   goal_there c h = subst (λ size. IsGoal (onto f t) (values_by size f c)) fits.1 h
 
   -- an operator that applies leads out where its code is neither claimed nor covered
@@ -81,32 +122,21 @@ module _ (t : Task) (law : Lawful t) (q : Claim) (fits : Fits t q.frame.now q.sh
           (both (not (bit_of bytes d)) (not (code_covered q d)) (subst (λ x. T (not (bit_of bytes x))) (sym there.1) l.1) (subst (λ b. T (not b)) (sym covered_next) l.2)),
     )
 
--- ---- which fault is tried first
+  -- ---- the walk over the codes
 
-module _ (t : Task) (ss : List shelves.Shelf) (f : ℕ) (set : ℕ → Bool) where
-  abbrev SealedBelow : ℕ → Type 0
-  SealedBelow n = (k : ℕ) → k < n → Sealed t ss f set k
+  pub sealed_skipped : (c : ℕ) → SealedBelow t q c → false ≡ (bit_of bytes c && not (code_covered q c)) → SealedBelow t q (c + 1)
+  sealed_skipped c low e = below_more _ c low (λ o. absurd (not_open c e o))
 
-  pub sealed_more : (c : ℕ) → SealedBelow c → Sealed t ss f set c → SealedBelow (c + 1)
-  sealed_more c low here = below_more (Sealed t ss f set) c low here
+  pub sealed_passed : (c : ℕ) → SealedBelow t q c → (IsGoal (onto f t) (values_by (size_in frame.sizes) f c) → ⊥) → KeptBelow t q c t.m → SealedBelow t q (c + 1)
+  sealed_passed c low miss kept = below_more _ c low (λ o. ((λ h. miss (goal_same c h)), kept))
 
-  pub set_right : SealedBelow (frame_size t f) → (e : RegisterFault) → SetWrong t ss f set e → ⊥
-  set_right all _ (meets c o g) = (all c o.0 o).0 g
-  set_right all _ (leads c u o l w) = (all c o.0 o).1 u l w
+  pub nothing_wrong : SealedBelow t q frame.size → (e : RegisterFault) → SetWrong t ss f (bit_of bytes) e → ⊥
+  nothing_wrong low = all_sealed t q (λ k h. low k (omega (arith, size_same)))
 
-  pub first_goal : (c : ℕ) → SealedBelow c → Open t ss f set c → IsGoal (onto f t) (values t f c) → First register_turn (SetWrong t ss f set) (MeetsGoal c)
-  first_goal c low o g = (meets c o g, go)
-    where
-      go : (e : RegisterFault) → SetWrong t ss f set e → Earlier (register_turn e) (register_turn (MeetsGoal c)) → ⊥
-      go _ (meets k p h) e = ⊎_elim (λ l. omega arith) (λ a. ⊎_elim (λ l. (low k l p).0 h) (λ b. omega (arith, b.1)) a.1) e
-      go _ (leads k u p l w) e = ⊎_elim (λ l. omega arith) (λ a. ⊎_elim (λ l'. (low k l' p).1 u l w) (λ b. omega (arith, b.1)) a.1) e
+  pub goal_is_first : (c : ℕ) → c < frame.size → SealedBelow t q c → true ≡ (bit_of bytes c && not (code_covered q c)) → IsGoal (onto f t) (values_by (size_in frame.sizes) f c)
+      → First register_turn (SetWrong t ss f (bit_of bytes)) (MeetsGoal c)
+  goal_is_first c l low e g = first_goal t q c low (is_open c l e) (goal_there c g)
 
-  pub first_out : (c o : ℕ) → SealedBelow c → Open t ss f set c → (IsGoal (onto f t) (values t f c) → ⊥) → o < t.m → Leaves t ss f set c o → ((u : ℕ) → u < o → Leaves t ss f set c u → ⊥) → First register_turn (SetWrong t ss f set) (LeadsOut c o)
-  first_out c o low p none l w least = (leads c o p l w, go)
-    where
-      go : (e : RegisterFault) → SetWrong t ss f set e → Earlier (register_turn e) (register_turn (LeadsOut c o)) → ⊥
-      go _ (meets k q h) e =
-          ⊎_elim (λ l. omega arith) (λ a. ⊎_elim (λ l'. (low k l' q).0 h) (λ b. none (subst (λ x. IsGoal (onto f t) (values t f x)) b.0 h)) a.1) e
-      go _ (leads k u q m v) e =
-          ⊎_elim (λ l. omega arith)
-          (λ a. ⊎_elim (λ l'. (low k l' q).1 u m v) (λ b. least u (omega (arith, b.1)) (subst (λ x. Leaves t ss f set x u) b.0 v)) a.1) e
+  pub out_is_first : (c o : ℕ) → c < frame.size → o < t.m → SealedBelow t q c → true ≡ (bit_of bytes c && not (code_covered q c)) → (IsGoal (onto f t) (values_by (size_in frame.sizes) f c) → ⊥)
+      → Leaves t ss f (bit_of bytes) c o → KeptBelow t q c o → First register_turn (SetWrong t ss f (bit_of bytes)) (LeadsOut c o)
+  out_is_first c o l m low e miss w kept = first_out t q c o low (is_open c l e) (λ h. miss (goal_same c h)) m w kept
