@@ -1,5 +1,5 @@
 // The verdict on the start position.
-ghost use Rattle.std.specs.Prelude.{◌≡◌};
+ghost use Rattle.std.specs.Prelude.{◌≡◌, true, MatchOption};
 ghost use Rattle.shelves.specs.Filing.{judged, found, is_hopeless};
 
 #[derive(Clone, Copy, PartialEq, Eq, Debug)]
@@ -13,13 +13,13 @@ pub enum Verdict {
 }
 
 impl Verdict {
-    // The verdict after a filing on the shelf with this number, which now holds the start or not.
-    pub fn after_filing(self, holds_start: bool, shelf: usize) -> Verdict
-        ensures { result ≡ judged self holds_start shelf }
+    // The verdict after a filing, given the number of the shelf that was filed on where it now holds the start.
+    pub fn after_filing(self, holder: Option<usize>) -> Verdict
+        ensures { MatchOption holder (result ≡ self) (λ shelf. result ≡ judged self true shelf) }
     {
-        match self {
-            Verdict::Open if holds_start => Verdict::Hopeless(shelf),
-            other => other,
+        match (self, holder) {
+            (Verdict::Open, Some(shelf)) => Verdict::Hopeless(shelf),
+            _ => self,
         }
     }
 
