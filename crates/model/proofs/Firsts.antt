@@ -1,6 +1,6 @@
 -- Tests that are made one after the other decide what is tried first.
-use Rattle.std.proofs.Common.{◌≡◌, ℕ, ◌+◌, ◌<◌, ◌≤◌, ◌⊎◌, List, [], ◌∷◌, length, Some, None, Option, sym, refl, subst, inl, inr, ⊎_elim, arith}
-use Rattle.std.proofs.lemmas.Bool.{cases_eq, cases_order}
+use Rattle.std.proofs.Common.{◌≡◌, ℕ, ◌+◌, ◌<◌, ◌≤◌, ◌⊎◌, List, [], ◌∷◌, length, Some, Option, refl, inl, arith}
+use Rattle.std.proofs.lemmas.Bool.{cases_order}
 use Rattle.model.specs.Orders.{Earlier, First, Least}
 
 abbrev pub hd : List ℕ → ℕ
@@ -8,20 +8,14 @@ hd [] = 0
 hd (x ∷ xs) = x
 
 not_earlier : (xs ys : List ℕ) → hd ys < hd xs → Earlier xs ys → ⊥
-not_earlier [] ys l e = e
-not_earlier (x ∷ xs) [] l e = e
-not_earlier (x ∷ xs) (y ∷ ys) l (inl e) = omega arith
-not_earlier (x ∷ xs) (y ∷ ys) l (inr e) = omega (arith, e.0)
+not_earlier xs ys l e = grind arith
 
 -- two lists of one length of which neither is earlier are one
 pub neither_earlier : (xs ys : List ℕ) → length xs ≡ length ys → (Earlier xs ys → ⊥) → (Earlier ys xs → ⊥) → xs ≡ ys
 neither_earlier [] [] e f g = refl
 neither_earlier [] (y ∷ ys) e f g = absurd (omega arith)
 neither_earlier (x ∷ xs) [] e f g = absurd (omega arith)
-neither_earlier (x ∷ xs) (y ∷ ys) e f g = ⊎_elim
-    (λ q. λ i. q i ∷ neither_earlier xs ys (omega arith) (λ h. f (inr (q, h))) (λ h. g (inr (sym q, h))) i)
-    (λ o. ⊎_elim (λ l. absurd (f (inl l))) (λ l. absurd (g (inl l))) o)
-    (cases_order x y)
+neither_earlier (x ∷ xs) (y ∷ ys) e f g = grind (arith, cases_order x y, neither_earlier xs ys)
 
 -- ---- one group of faults after another
 
@@ -31,10 +25,7 @@ module _ {A : Type 0} (turn : A → List ℕ) where
   Ranged W low high = (e : A) → W e → (low ≤ hd (turn e)) × (hd (turn e) ≤ high)
 
   pub first_left : (V W : A → Type 0) (a b c d : ℕ) → Ranged V a b → Ranged W c d → b < c → (e : A) → First turn V e → First turn (λ x. V x ⊎ W x) e
-  first_left V W a b c d rv rw l e f = (inl f.0, λ x w k. ⊎_elim (λ u. f.1 x u k) (λ u. not_earlier (turn x) (turn e) (omega (arith, rv e f.0, rw x u)) k) w)
-
-  pub first_right : (V W : A → Type 0) → ((e : A) → V e → ⊥) → (e : A) → First turn W e → First turn (λ x. V x ⊎ W x) e
-  first_right V W none e f = (inr f.0, λ x w k. ⊎_elim (λ u. none x u) (λ u. f.1 x u k) w)
+  first_left V W a b c d rv rw l e f = (inl f.0, λ x w k. grind (arith, rv e, rw x, f.1 x, not_earlier (turn x) (turn e)))
 
 -- ---- faults that are told apart by a number and a place
 
@@ -47,22 +38,15 @@ module _ {A : Type 0} (number place : A → ℕ) (fault : ℕ → ℕ → A) (ba
   NoneBelow k = (a : A) → number a < k → W a → ⊥
 
   at_number : (k : ℕ) (a : A) → number a ≡ k → W a → W (fault k (place a))
-  at_number k a e w = subst W (sym (subst (λ n. fault n (place a) ≡ a) e (back a))) w
+  at_number k a e w = rw (← e, back) w
 
   pub none_more : (k : ℕ) → NoneBelow k → ((i : ℕ) → W (fault k i) → ⊥) → NoneBelow (k + 1)
-  none_more k low none a h w = ⊎_elim (λ e. none (place a) (at_number k a e w)) (λ n. low a (omega arith) w) (cases_eq (number a) k)
+  none_more k low none a h w = grind (arith, low a, none (place a), at_number k a)
 
   pub first_at : (k i : ℕ) → NoneBelow k → Least (λ j. W (fault k j)) (Some i) → number (fault k i) ≡ k → place (fault k i) ≡ i → First turn W (fault k i)
-  first_at k i low least n p = (
-    least.0,
-    λ a w e. ⊎_elim
-        (λ l. low a (omega arith) w)
-        (λ h. ⊎_elim (λ l. least.1 (place a) (omega arith) (at_number k a (omega (arith, h.0)) w)) (λ q. q.1) h.1)
-        e,
-  )
+  first_at k i low least n p = (least.0, λ a w e. grind (arith, low a, least.1 (place a), at_number k a))
 
 -- ---- the least number of one of two kinds, where there is none of the first kind
 
 pub least_right : (P Q : ℕ → Type 0) (r : Option ℕ) → ((i : ℕ) → P i → ⊥) → Least Q r → Least (λ i. P i ⊎ Q i) r
-least_right P Q None none h = λ i. ⊎_elim (none i) (h i)
-least_right P Q (Some i) none h = (inr h.0, λ j l. ⊎_elim (none j) (h.1 j l))
+least_right P Q r none h = grind arith

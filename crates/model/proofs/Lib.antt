@@ -16,4 +16,3 @@ pub mod Truths
 pub mod Insides
 pub mod Choosing
 pub mod Widening
-pub mod Whole

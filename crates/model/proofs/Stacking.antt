@@ -1,8 +1,8 @@
 -- A pile of layers is the layers one over the other. It keeps the limits, and is a reduction.
-use Rattle.std.proofs.Common.{◌≡◌, ℕ, List, [], ◌∷◌, ◌++◌, Option, sym, refl, ap, ◌∙◌, subst}
+use Rattle.std.proofs.Common.{◌≡◌, List, [], ◌∷◌, ◌++◌, sym, refl, ap, ◌∙◌}
 use Rattle.model.specs.Tasks.{Task, Lawful}
 use Rattle.model.specs.Reductions.{Reduces}
-use Rattle.model.specs.Stack.{Layering, keeping, joining, layered, layer_size, layer_image, layer_wanted, stack_size, stack_image, stack_wanted, stacked}
+use Rattle.model.specs.Stack.{Layering, keeping, joining, layered, layer_image, stack_image, stacked}
 use Rattle.model.proofs.Reducing.{reduces_self, compose}
 use Rattle.model.proofs.LeavingOut.{leave_out_lawful, leave_out_reduces}
 use Rattle.model.proofs.Joining.{join_lawful, join_reduces}
@@ -22,29 +22,15 @@ stacked_first (joining w a b) ls t = refl
 
 pub stacked_lawful : (ls : List Layering) (t : Task) → Lawful t → Lawful (stacked ls t)
 stacked_lawful [] t law = law
-stacked_lawful (l ∷ ls) t law = subst Lawful (stacked_first l ls t) (stacked_lawful ls (layered l t) (layered_lawful l t law))
+stacked_lawful (l ∷ ls) t law = rw stacked_first at (stacked_lawful ls (layered l t) (layered_lawful l t law))
 
 pub stacked_reduces : (ls : List Layering) (t : Task) → Reduces t (stacked ls t) (stack_image ls)
 stacked_reduces [] t = reduces_self t
 stacked_reduces (l ∷ ls) t =
     compose t (layered l t) (stacked (l ∷ ls) t) (layer_image l) (stack_image ls) (layered_reduces l t)
-    (subst (λ u. Reduces (layered l t) u (stack_image ls)) (stacked_first l ls t) (stacked_reduces ls (layered l t)))
+    (rw (stacked_first l ls t) at (stacked_reduces ls (layered l t)))
 
--- ---- one layer more, on top
-
-pub stack_size_more : (ls : List Layering) (l : Layering) (v k : ℕ) → stack_size (ls ++ (l ∷ [])) v k ≡ layer_size l v (stack_size ls v k)
-stack_size_more [] l v k = refl
-stack_size_more (j ∷ ls) l v k = stack_size_more ls l v (layer_size j v k)
-
-pub stack_image_more : (ls : List Layering) (l : Layering) (v x : ℕ) → stack_image (ls ++ (l ∷ [])) v x ≡ layer_image l v (stack_image ls v x)
-stack_image_more [] l v x = refl
-stack_image_more (j ∷ ls) l v x = stack_image_more ls l v (layer_image j v x)
-
-pub stack_wanted_more : (ls : List Layering) (l : Layering) (v : ℕ) (x : Option ℕ) → stack_wanted (ls ++ (l ∷ [])) v x ≡ layer_wanted l v (stack_wanted ls v x)
-stack_wanted_more [] l v x = refl
-stack_wanted_more (j ∷ ls) l v x = stack_wanted_more ls l v (layer_wanted j v x)
-
+-- one layer more, on top
 pub stacked_more : (ls : List Layering) (l : Layering) (t : Task) → stacked (ls ++ (l ∷ [])) t ≡ layered l (stacked ls t)
-stacked_more [] (keeping mask) t = refl
-stacked_more [] (joining w a b) t = refl
+stacked_more [] l t = sym (stacked_first l [] t)
 stacked_more (j ∷ ls) l t = sym (stacked_first j (ls ++ (l ∷ [])) t) ∙ stacked_more ls l (layered j t) ∙ ap (layered l) (stacked_first j ls t)
