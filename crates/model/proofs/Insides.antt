@@ -1,12 +1,13 @@
 -- A set of variables inside another: the smaller projection is a reduction of the larger, and codes in it are the same.
-use Rattle.std.proofs.Common.{◌≡◌, ℕ, zero, suc, cond, T, None, refl, subst, arith}
+use Rattle.std.proofs.Common.{◌≡◌, ℕ, zero, suc, cond, T, None, refl, ap, sym, ◌∙◌, subst, arith}
 use Rattle.std.proofs.lemmas.Bool.Decides.{nat_tests}
 use Rattle.std.proofs.lemmas.Nat.Bits.{bit_at_and}
-use Rattle.model.specs.Tasks.{Task, Position}
+use Rattle.model.specs.Tasks.{Task, Position, Legal, Lawful}
 use Rattle.model.specs.Reductions.{Reduces, image_of}
 use Rattle.model.specs.LeaveOut.{has, kept}
-use Rattle.model.specs.Frames.{inside, strictly_inside, onto, code_below, code}
+use Rattle.model.specs.Frames.{inside, strictly_inside, onto, code_below, code, values}
 use Rattle.model.proofs.LeavingOut.{leave_out_reduces}
+use Rattle.model.proofs.Coding.{code_kept, values_code}
 
 pub inside_strictly : (g f : ℕ) → T (strictly_inside g f) → T (inside g f)
 inside_strictly g f h = grind arith
@@ -43,3 +44,10 @@ inner_below t g f i p (suc v) = grind (arith, inner_below t g f i p v, has_insid
 
 pub code_inside : (t : Task) (g f : ℕ) → T (inside g f) → (p : Position) → code t g (image_of (kept f) p) ≡ code t g p
 code_inside t g f i p = inner_below t g f i p t.n
+
+-- so a code tells the codes of its position in all inner sets
+pub code_of_values : (t : Task) → Lawful t → (g f : ℕ) → T (inside g f) → (p : Position) → Legal t p → code t g (values t f (code t f p)) ≡ code t g p
+code_of_values t law g f i p h =
+    ap (λ (c : ℕ). code t g (values t f c)) (sym (code_kept t f p))
+    ∙ ap (code t g) (values_code t law f (image_of (kept f) p) ((leave_out_reduces f t).legal p h))
+    ∙ code_inside t g f i p

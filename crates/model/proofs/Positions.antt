@@ -1,10 +1,10 @@
 -- Positions in memory: what lies past the variables of a task.
-use Rattle.std.proofs.Common.{◌≡◌, ℕ, ◌<◌, ◌≤◌, List, length, arith}
+use Rattle.std.proofs.Common.{◌≡◌, ℕ, ◌<◌, ◌≤◌, List, length, unwrap_or, arith}
 use mathlib.Core.Path.{fun_ext}
 use Rattle.std.proofs.lemmas.Grind.{common_steps}
 use Rattle.std.proofs.lemmas.List.FromFn.{get_or-map-range_with_len, length-map-range_with_len}
 use Rattle.std.proofs.lemmas.List.{get_or_past}
-use Rattle.model.specs.Tasks.{Task, Position, Lawful, Holds, Applies, IsGoal, after, position, advanced}
+use Rattle.model.specs.Tasks.{Task, Position, Lawful, Holds, Applies, IsGoal, after, below, position, advanced}
 
 -- a list that has each value of a position below n, and 0 from n on as the position has, gives the position
 pub position_all : (p : Position) (xs : List ℕ) (n : ℕ) → ((v : ℕ) → v < n → position xs v ≡ p v) → ((v : ℕ) → n ≤ v → position xs v ≡ 0) → ((v : ℕ) → n ≤ v → p v ≡ 0) → position xs ≡ p
@@ -13,6 +13,10 @@ position_all p xs n low past none = fun_ext (λ v. grind (arith, low v, past v, 
 module _ (t : Task) (law : Lawful t) where
   pub start_outside : (v : ℕ) → t.n ≤ v → t.start v ≡ 0
   start_outside v h = omega (arith, law.starts v, law.outside v h)
+
+  -- the start value that a question tells, or 0
+  pub start_told : (v : ℕ) → unwrap_or (below v t.n (t.start v)) 0 ≡ t.start v
+  start_told v = grind (arith, start_outside v)
 
   -- a list of 32 values that has the start value of each is the start position
   pub start_all : (xs : List ℕ) → length xs ≡ 32 → ((v : ℕ) → v < 32 → position xs v ≡ t.start v) → position xs ≡ t.start

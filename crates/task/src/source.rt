@@ -6,8 +6,6 @@ ghost use Rattle.model.specs.Tasks.{Task, Lawful, Alike, below};
 pub trait TaskSource {
     ghost task: { Self → Task };
 
-    ghost lawful: { (s : Self) → Lawful (task s) };
-
     // How many variables there are, 1 to 32.
     fn variables(&self) -> usize
         ensures { result ≡ (task self.now).n };
@@ -35,6 +33,9 @@ pub trait TaskSource {
     // The value of v that the goal wants.
     fn goal(&self, v: usize) -> Option<u16>
         ensures { result ≡ (task self.now).goal v };
+
+    // its task keeps all limits
+    ghost lawful: { (s : Self) → Lawful (task s) };
 }
 
 // Two sources answer every question alike exactly when they mean one task.

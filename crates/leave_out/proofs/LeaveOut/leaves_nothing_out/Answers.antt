@@ -7,4 +7,4 @@ pub returns : goal.returns
 returns g c =
     let s = c.args.self.now.source in
     let t = g.S.TaskSource.task s in
-    ap (λ mask. leave_out mask t) c.requires ∙ leave_out_nothing t (g.S.TaskSource.lawful s)
+    ap (λ mask. leave_out mask t) c.requires ∙ leave_out_nothing t (g.met.S.TaskSource.lawful s)

@@ -21,7 +21,7 @@ pub returns : goal.returns
 returns g c =
     let s = c.args.source.now in
     let t = g.S.TaskSource.task s in
-    let law = g.S.TaskSource.lawful s in
+    let law = g.met.S.TaskSource.lawful s in
     let h = c.from_fn.ensures.items in
     start_all t law c.from_fn.result h.long
     (λ v l. made_all _ _ (λ i y. y ≡ t.start i) (λ i y q k. search (rules, start_told t law i)) c.from_fn.result 0 32 h.each v (omega arith) l)

@@ -30,7 +30,7 @@ pub loop-i-preserved : goal.loop-i-preserved
 loop-i-preserved g c =
     let s = c.args.source.now in
     let t = g.S.TaskSource.task s in
-    let law = g.S.TaskSource.lawful s in
+    let law = g.met.S.TaskSource.lawful s in
     let os = c.args.operators.now in
     let i = c.loop-i.i in
     let known : get_or os i 0 < t.m = grind (arith, c.in_default.ensures i) in

@@ -5,4 +5,4 @@ pub returns : goal.returns
 returns g c =
     let a = c.args.a.now in
     let b = c.args.b.now in
-    alike_when_same (g.A.TaskSource.task a) (g.B.TaskSource.task b) (g.A.TaskSource.lawful a) (g.B.TaskSource.lawful b)
+    alike_when_same (g.A.TaskSource.task a) (g.B.TaskSource.task b) (g.met.A.TaskSource.lawful a) (g.met.B.TaskSource.lawful b)

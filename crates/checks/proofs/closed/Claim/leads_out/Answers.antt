@@ -10,4 +10,4 @@ returns-in-Some g c fits =
     let q = c.args.self.now in
     let t = g.S.TaskSource.task c.args.source.now in
     subst (λ b. Decides b (Leaves t (shelves_of q.shelves.pool.now q.shelves.records.now) q.frame.now.mask (bit_of q.bytes.now) c.args.c c.args.o)) (sym c.is_out.ensures)
-    (leaves_decided t (g.S.TaskSource.lawful c.args.source.now) q fits c.args.c c.args.o c.in-Some.d c.in-Some.ensures)
+    (leaves_decided t (g.met.S.TaskSource.lawful c.args.source.now) q fits c.args.c c.args.o c.in-Some.d c.in-Some.ensures)
