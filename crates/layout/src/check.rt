@@ -1,5 +1,6 @@
 // The tests of a card's words, each of which names the lowest word at fault.
-ghost use Rattle.std.specs.Result.{MatchResult};
+ghost use Rattle.std.specs.Prelude.{◌≤◌, Decides, MatchResult};
+ghost use Rattle.model.specs.Card.{variable_of, next_of};
 ghost use Rattle.model.specs.Orders.{First};
 ghost use Rattle.layout.specs.declared.fault.CardFault.TheVariants.{BadCount, BadSize, BadStart, BadLink, BadRecord, BadOrder};
 ghost use Rattle.layout.specs.Wrong.{CardWrong, WrongHead, WrongNext, NoneBelow, Tries, TriesOf, Reads};
@@ -49,10 +50,16 @@ fn check_counts(words: &[u16]) -> Result<(), CardFault>
     Ok(())
 }
 
+fn is_size(size: u16) -> bool
+    ensures { Decides result ((1 ≤ size) × (size ≤ 64)) }
+{
+    (1..=MAX_SIZE).contains(&size)
+}
+
 fn check_sizes(words: &[u16]) -> Result<(), CardFault>
     ensures { Tries words.now BadSize result }
 {
-    match (4..4 + variables(words)).find(|&i| !(1..=MAX_SIZE).contains(&word(words, i))) {
+    match (4..4 + variables(words)).find(|&i| !is_size(word(words, i))) {
         Some(i) => Err(CardFault::BadSize(i)),
         None => Ok(()),
     }
@@ -110,14 +117,18 @@ fn check_records(words: &[u16]) -> Result<(), CardFault>
     }
 }
 
+// Whether the record k leads to one whose variable is not above its own.
+fn descends(words: &[u16], k: u16) -> bool
+    ensures { Decides result ((1 ≤ next_of words.now k) × (variable_of words.now (next_of words.now k) ≤ variable_of words.now k)) }
+{
+    let next = next_of(words, k);
+    next > 0 && variable_of(words, next) <= variable_of(words, k)
+}
+
 fn check_order(words: &[u16]) -> Result<(), CardFault>
     ensures { Tries words.now BadOrder result }
 {
-    let descends = |&k: &u16| {
-        let next = next_of(words, k);
-        next > 0 && variable_of(words, next) <= variable_of(words, k)
-    };
-    match (1..=records(words)).find(descends) {
+    match (1..=records(words)).find(|&k| descends(words, k)) {
         Some(k) => Err(CardFault::BadOrder(record_at(words, k) + 2)),
         None => Ok(()),
     }

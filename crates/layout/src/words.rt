@@ -1,4 +1,6 @@
 // Where the words of a card stand, and the walk along a chain. A word past the end reads as 0.
+// Records are told by their numbers, as the card's format has it: a card is read where it lies, and takes no heap.
+// Functions of the slice, not methods of a view: the view would hold the slice alone, and what they answer is a function of the list.
 ghost use Rattle.std.specs.Prelude.{◌≡◌};
 ghost use Rattle.model.specs.Card.{variables, operators, records, goal_at, record_at, card_length, variable_of, value_of, next_of, chain, value_in, chained};
 
