@@ -2,8 +2,10 @@
 // Records are told by their numbers, as the card's format has it: a card is read where it lies, and takes no heap.
 // Functions of the slice, not methods of a view: the view would hold the slice alone, and what they answer is a function of the list.
 ghost use Rattle.std.specs.Prelude.{◌≡◌};
-ghost use Rattle.model.specs.Card.{variables, operators, records, goal_at, record_at, card_length, variable_of, value_of, next_of, chain, value_in, chained};
+ghost use Rattle.model.specs.Card.{variables, operators, records, goal_at, record_at, card_length};
+ghost use Rattle.model.specs.Card.{variable_of, value_of, next_of, chain, value_in, chained};
 
+use std::iter;
 use task::words::word;
 
 pub fn variables(words: &[u16]) -> usize
@@ -67,17 +69,11 @@ pub(crate) fn next_of(words: &[u16], k: u16) -> u16
 fn walk(words: &[u16], first: u16, most: usize, v: usize) -> Option<u16>
     ensures { result ≡ value_in words.now (chain most words.now first) v }
 {
-    let mut k = first;
-    for _step in 0..most {
-        if k == 0 {
-            return None;
-        }
-        if variable_of(words, k) == v {
-            return Some(value_of(words, k));
-        }
-        k = next_of(words, k);
-    }
-    None
+    iter::successors(Some(first), |&k| Some(next_of(words, k)))
+        .take(most)
+        .take_while(|&k| k > 0)
+        .find(|&k| variable_of(words, k) == v)
+        .map(|k| value_of(words, k))
 }
 
 // The value of v in the chain whose head stands at `head`. A chain has at most as many records as there are variables.

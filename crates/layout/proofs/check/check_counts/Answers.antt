@@ -1,4 +1,4 @@
-use Rattle.std.proofs.Common.{◌≡◌, ◌∙◌, sym, refl, arith}
+use Rattle.std.proofs.Common.{◌∙◌, sym, refl, arith}
 use Rattle.layout.proofs.Faulting.{none_yet, none_more, first_tried}
 use Rattle.layout.proofs.check.check_counts.Goals as goal
 
