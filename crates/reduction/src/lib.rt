@@ -2,7 +2,9 @@
 #![tactic(auto)]
 
 pub mod check;
+pub mod coarsening;
 pub mod fault;
 pub mod ground;
 pub mod interface;
 pub mod joined;
+pub mod over;

@@ -1,0 +1,63 @@
+// What layers over a task make of its answers.
+ghost use Rattle.std.specs.Prelude.{◌≡◌, List, [], ◌∷◌, map};
+ghost use Rattle.model.specs.Tasks.{Task, Lawful};
+ghost use Rattle.model.specs.Stack.{Layering, stack_size, stack_image, stack_wanted, stacked};
+ghost use Rattle.reduction.specs.declared.fault.ReductionFault.{ReductionFault};
+ghost use Rattle.reduction.specs.Settings.{Tests};
+
+use crate::fault::ReductionFault;
+use task::source::TaskSource;
+
+// A layer, or a list of layers, the lowest first. It makes a coarser task of the one below by what it makes of a size, of a value, and of
+// a value that may be none.
+pub trait Coarsening {
+    ghost layers: { Self → List Layering };
+
+    // The size of the variable v, of k values below.
+    fn size(&self, v: usize, k: u16) -> u16
+        ensures { result ≡ stack_size (layers self.now) v k };
+
+    // Where the value x of v goes.
+    fn value(&self, v: usize, x: u16) -> u16
+        ensures { result ≡ stack_image (layers self.now) v x };
+
+    // The value of v that is needed, made or wanted, where the task below has this one.
+    fn wanted(&self, v: usize, x: Option<u16>) -> Option<u16>
+        ensures { result ≡ stack_wanted (layers self.now) v x };
+}
+
+// A layer by itself, which can be tested before it is set over a task.
+pub trait Single: Coarsening {
+    ghost layering: { Self → Layering };
+
+    // what is wrong with it over a task
+    ghost wrong: { Task → Self → ReductionFault → Type 0 };
+
+    fn check<S: TaskSource>(&self, source: &S) -> Result<(), ReductionFault>
+        ensures { Tests (wrong (S.TaskSource.task source.now) self.now) result };
+
+    ghost alone: { (l : Self) → Self.layers l ≡ layering l ∷ [] };
+}
+
+// A kind of layer of which one changes no task.
+pub trait Neutral: Coarsening {
+    fn neutral() -> Self
+        ensures { (t : Task) → Lawful t → stacked (Self.layers result) t ≡ t };
+}
+
+// Layers one over the other.
+impl<L: Single> Coarsening for Vec<L> {
+    ghost layers = { λ ls. map L.layering ls.items };
+
+    fn size(&self, v: usize, k: u16) -> u16 {
+        self.iter().fold(k, |k, layer| layer.size(v, k))
+    }
+
+    fn value(&self, v: usize, x: u16) -> u16 {
+        self.iter().fold(x, |x, layer| layer.value(v, x))
+    }
+
+    fn wanted(&self, v: usize, x: Option<u16>) -> Option<u16> {
+        self.iter().fold(x, |x, layer| layer.wanted(v, x))
+    }
+}
