@@ -1,7 +1,9 @@
 // What layers over a task make of its answers.
 ghost use Rattle.std.specs.Prelude.{◌≡◌, List, [], ◌∷◌, map};
 ghost use Rattle.model.specs.Tasks.{Task, Lawful};
+ghost use Rattle.model.specs.Reductions.{Reduces};
 ghost use Rattle.model.specs.Stack.{Layering, stack_size, stack_image, stack_wanted, stacked};
+ghost use Rattle.model.proofs.Stacking.{stacked_reduces};
 ghost use Rattle.reduction.specs.declared.fault.ReductionFault.{ReductionFault};
 ghost use Rattle.reduction.specs.Settings.{Tests};
 
@@ -24,6 +26,8 @@ pub trait Coarsening {
     // The value of v that is needed, made or wanted, where the task below has this one.
     fn wanted(&self, v: usize, x: Option<u16>) -> Option<u16>
         ensures { result ≡ stack_wanted (layers self.now) v x };
+
+    ghost reduces: { (l : Self) (t : Task) → Reduces t (stacked (layers l) t) (stack_image (layers l)) } = { λ l t. stacked_reduces (layers l) t };
 }
 
 // A layer by itself, which can be tested before it is set over a task.

@@ -1,6 +1,9 @@
 // What can be wrong with a leave-out or a join that is asked for.
+ghost use Rattle.std.specs.Prelude.{◌≡◌};
 ghost use Rattle.reduction.specs.Faults.{reduction_refusal};
+ghost use Rattle.reduction.specs.declared.fault.PutError.TheVariants.{Declined, NoMemory};
 
+use std::alloc::{AllocError, AllocFailed};
 use task::refusal::{Fault, Layer, Refusal};
 
 #[derive(Clone, Copy, PartialEq, Eq, Debug)]
@@ -27,5 +30,28 @@ impl Fault for ReductionFault {
             layer: Layer::Reduction,
             place: (at, 0),
         }
+    }
+}
+
+// Why a layer does not go on top of others.
+#[derive(Clone, Copy, PartialEq, Eq, Debug)]
+pub enum PutError {
+    Declined(ReductionFault),
+    NoMemory(AllocError),
+}
+
+impl From<ReductionFault> for PutError {
+    ghost from_gives = { λ fault e. e ≡ Declined fault };
+
+    fn from(fault: ReductionFault) -> PutError {
+        PutError::Declined(fault)
+    }
+}
+
+impl<T: Drop> From<AllocFailed<T>> for PutError {
+    ghost from_gives = { λ _ e. e ≡ NoMemory (record {}) };
+
+    fn from(_refused: AllocFailed<T>) -> PutError {
+        PutError::NoMemory(AllocError)
     }
 }

@@ -1,12 +1,13 @@
 // A source under layers.
-ghost use Rattle.std.specs.Prelude.{◌≡◌, refl, MatchResult};
-ghost use Rattle.model.specs.Stack.{stack_image, stacked};
-ghost use Rattle.model.proofs.Stacking.{stacked_lawful, stacked_reduces};
-ghost use Rattle.reduction.specs.Settings.{Tests};
+ghost use Rattle.std.specs.Prelude.{◌≡◌, map, MatchResult, OnOk, refl};
+ghost use Rattle.model.specs.Stack.{layered, stack_image, stacked};
+ghost use Rattle.model.proofs.Stacking.{stacked_lawful};
+ghost use Rattle.reduction.specs.Settings.{Tests, PutTests, Puts};
 ghost use Rattle.reduction.specs.Layers.{over_pile};
 
 use crate::coarsening::{Coarsening, Neutral, Single};
-use crate::fault::ReductionFault;
+use crate::fault::{PutError, ReductionFault};
+use crate::ground::Ground;
 use crate::interface::Reduction;
 use task::source::TaskSource;
 
@@ -39,6 +40,43 @@ impl<S: TaskSource, L: Single + Drop> Over<S, L> {
         layer.check(&self.source)?;
         self.layer = layer;
         Ok(())
+    }
+}
+
+impl<S: TaskSource, L> Over<Ground<S>, Vec<L>> {
+    // The layers over a bare source, the lowest first.
+    pub fn with_layers(source: S, layers: Vec<L>) -> Self
+        ensures below { result.source.source ≡ source }
+        ensures layers { result.layer ≡ layers }
+    {
+        Over {
+            source: Ground::over(source),
+            layer: layers,
+        }
+    }
+}
+
+impl<S: TaskSource, L: Single + Drop> Over<S, Vec<L>> {
+    #[tactic(auto, using(crate::specs::Layers::put_on_top))]
+    // Puts a layer on top. Declined, or for want of memory, the pile stays as it was.
+    pub fn put(&mut self, layer: L) -> Result<(), PutError>
+        ensures tests { PutTests (L.wrong (stacked (map L.layering self.old.layer.items) (S.TaskSource.task self.old.source)) layer) result }
+        ensures below { self.new.source ≡ self.old.source }
+        ensures puts { Puts layer self.old.layer.items result self.new.layer.items }
+        ensures tops { OnOk result (stacked (map L.layering self.new.layer.items) (S.TaskSource.task self.new.source) ≡ layered (L.layering layer) (stacked (map L.layering self.old.layer.items) (S.TaskSource.task self.old.source))) }
+    {
+        layer.check(self)?;
+        self.layer.push(layer)?;
+        Ok(())
+    }
+}
+
+impl<S: Drop, L> Over<S, Vec<L>> {
+    // The layers alone.
+    pub fn into_layers(self) -> Vec<L>
+        ensures { result ≡ self.layer }
+    {
+        self.layer
     }
 }
 
@@ -89,7 +127,7 @@ impl<R: Reduction, L: Coarsening> Reduction for Over<R, L> {
 
     ghost grounded = { λ s. R.Reduction.grounded s.source };
 
-    ghost reduces = { λ s. over_pile (R.Reduction.tied s.source) (R.Reduction.reduces s.source) (stacked_reduces (L.layers s.layer) (R.TaskSource.task s.source)) };
+    ghost reduces = { λ s. over_pile (R.Reduction.tied s.source) (R.Reduction.reduces s.source) (L.reduces s.layer (R.TaskSource.task s.source)) };
 
     fn image(&self, v: usize, x: u16) -> Option<u16> {
         let y = self.source.image(v, x)?;

@@ -1,14 +1,14 @@
 // Leave-outs, joins and piles over the first card.
 use crate::cards::WORDS;
 use card::Card;
-use join::Join;
-use leave_out::LeaveOut;
-use reduction::fault::ReductionFault;
+use join::{Join, Pair};
+use leave_out::{Keep, LeaveOut};
+use reduction::fault::{PutError, ReductionFault};
 use reduction::ground::Ground;
 use reduction::interface::{Reduction, image_of};
 use ring::Ring;
+use stack::Stack;
 use stack::layer::Layer;
-use stack::pile::Stack;
 use std::process::Abort;
 use std::test::Fail;
 use task::refusal::Fault;
@@ -20,11 +20,19 @@ fn first_card() -> Card<&'static [u16]> {
     card
 }
 
+fn pair(variable: usize, low: u16, high: u16) -> Pair {
+    Pair {
+        variable,
+        low,
+        high,
+    }
+}
+
 #[test]
 fn a_join_reads_two_values_as_one(rt: HostRuntime) {
     let mut top = Join::over(Ground::over(first_card()));
     assert_eq!(rt; (top.size(1), top.goal(1)), (Some(3), Some(2)));
-    assert!(rt; top.join(1, 0, 1).is_ok());
+    assert!(rt; top.set(pair(1, 0, 1)).is_ok());
     assert_eq!(rt;
         (top.size(0), top.size(1), top.goal(1)),
         (Some(2), Some(2), Some(1))
@@ -43,7 +51,7 @@ fn a_join_reads_two_values_as_one(rt: HostRuntime) {
 fn a_leave_out_keeps_its_variables_alone(rt: HostRuntime) {
     let mut top = LeaveOut::over(Ground::over(first_card()));
     assert_eq!(rt; (top.size(0), top.needed(1, 0)), (Some(2), Some(0)));
-    assert!(rt; top.keep(2).is_ok());
+    assert!(rt; top.set(Keep { mask: 2 }).is_ok());
     assert_eq!(rt;
         (top.size(0), top.size(1), top.size(2)),
         (Some(1), Some(3), None)
@@ -52,7 +60,7 @@ fn a_leave_out_keeps_its_variables_alone(rt: HostRuntime) {
         (top.needed(1, 0), top.needed(1, 1), top.made(0, 0)),
         (None, Some(0), None)
     );
-    assert!(rt; top.keep(1).is_ok());
+    assert!(rt; top.set(Keep { mask: 1 }).is_ok());
     assert_eq!(rt;
         (top.size(0), top.size(1), top.goal(1)),
         (Some(2), Some(1), None)
@@ -71,14 +79,17 @@ fn number_and_place(answer: Result<(), ReductionFault>) -> Result<(u16, usize), 
 #[test]
 fn wrong_settings_are_declined(rt: HostRuntime) -> Result<(), Fail> {
     let mut few = LeaveOut::over(first_card());
-    assert_eq!(rt; number_and_place(few.keep(0))?, (10, 32));
-    assert_eq!(rt; number_and_place(few.keep(0b1101))?, (10, 2));
-    assert_eq!(rt; number_and_place(few.keep(1 << 31))?, (10, 31));
+    assert_eq!(rt; number_and_place(few.set(Keep { mask: 0 }))?, (10, 32));
+    assert_eq!(rt; number_and_place(few.set(Keep { mask: 0b1101 }))?, (10, 2));
+    assert_eq!(rt;
+        number_and_place(few.set(Keep { mask: 1 << 31 }))?,
+        (10, 31)
+    );
     assert_eq!(rt; few.size(1), Some(3));
     let mut one = Join::over(few);
-    assert_eq!(rt; number_and_place(one.join(2, 0, 1))?, (20, 2));
-    assert_eq!(rt; number_and_place(one.join(1, 1, 1))?, (20, 1));
-    assert_eq!(rt; number_and_place(one.join(1, 1, 3))?, (20, 1));
+    assert_eq!(rt; number_and_place(one.set(pair(2, 0, 1)))?, (20, 2));
+    assert_eq!(rt; number_and_place(one.set(pair(1, 1, 1)))?, (20, 1));
+    assert_eq!(rt; number_and_place(one.set(pair(1, 1, 3)))?, (20, 1));
     assert_eq!(rt; one.size(1), Some(3));
     Ok(())
 }
@@ -88,7 +99,7 @@ fn a_mask_may_have_bit_31(rt: HostRuntime) {
     let mut ring = Ring::new();
     assert!(rt; ring.set(32).is_ok());
     let mut top = LeaveOut::over(ring);
-    assert!(rt; top.keep(1 << 31).is_ok());
+    assert!(rt; top.set(Keep { mask: 1 << 31 }).is_ok());
     assert_eq!(rt;
         (top.size(30), top.size(31), top.made(30, 31)),
         (Some(1), Some(2), Some(1))
@@ -118,34 +129,23 @@ fn alike<A: Reduction, B: Reduction>(rt: &impl Abort, a: &A, b: &B) {
 }
 
 #[test]
-fn a_stack_is_the_pile_of_its_layers(rt: HostRuntime) -> Result<(), Fail> {
+fn a_stack_is_the_pile_of_its_layers(rt: HostRuntime) {
     let mut low = LeaveOut::over(Ground::over(first_card()));
-    assert!(rt; low.keep(3).is_ok());
+    assert!(rt; low.set(Keep { mask: 3 }).is_ok());
     let mut middle = Join::over(low);
-    assert!(rt; middle.join(1, 0, 2).is_ok());
+    assert!(rt; middle.set(pair(1, 0, 2)).is_ok());
     let mut top = LeaveOut::over(middle);
-    assert!(rt; top.keep(2).is_ok());
-    let mut stack = Stack::over(first_card(), Vec::new(rt.alloc()));
-    assert!(rt; stack.put(Layer::Keep(3))?.is_ok());
+    assert!(rt; top.set(Keep { mask: 2 }).is_ok());
+    let mut stack = Stack::with_layers(first_card(), Vec::new(rt.alloc()));
+    assert!(rt; stack.put(Layer::Keep(Keep { mask: 3 })).is_ok());
+    assert!(rt; stack.put(Layer::Join(pair(1, 0, 2))).is_ok());
     assert!(rt;
-        stack
-            .put(Layer::Join {
-                variable: 1,
-                low: 0,
-                high: 2,
-            })?
-            .is_ok()
+        matches!(
+            stack.put(Layer::Join(pair(1, 0, 2))),
+            Err(PutError::Declined(_))
+        )
     );
-    assert!(rt;
-        stack
-            .put(Layer::Join {
-                variable: 1,
-                low: 0,
-                high: 2,
-            })?
-            .is_err()
-    );
-    assert!(rt; stack.put(Layer::Keep(2))?.is_ok());
+    assert!(rt; stack.put(Layer::Keep(Keep { mask: 2 })).is_ok());
     alike(&rt, &top, &stack);
     assert_eq!(rt;
         (stack.size(1), stack.goal(1), stack.made(2, 1)),
@@ -155,5 +155,4 @@ fn a_stack_is_the_pile_of_its_layers(rt: HostRuntime) -> Result<(), Fail> {
         (image_of(&stack, 1, 2), image_of(&stack, 0, 1)),
         (Some(0), Some(0))
     );
-    Ok(())
 }
