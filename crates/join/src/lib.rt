@@ -1,8 +1,9 @@
 // Join: a layer that makes two values of a variable one.
 #![tactic(auto)]
 
-ghost use Rattle.std.specs.Prelude.{[], ◌∷◌, refl};
+ghost use Rattle.std.specs.Prelude.{◌≤◌, [], ◌∷◌, refl};
 ghost use Rattle.model.specs.Stack.{joining};
+ghost use Rattle.model.proofs.Joining.{join_nothing};
 ghost use Rattle.reduction.specs.Settings.{JoinWrong};
 
 use reduction::coarsening::{Coarsening, Neutral, Single};
@@ -25,7 +26,11 @@ impl Coarsening for Pair {
     ghost layers = { λ pair. joining pair.variable pair.low pair.high ∷ [] };
 
     fn size(&self, v: usize, k: u16) -> u16 {
-        if v == self.variable && self.low < self.high && self.high < k { k - 1 } else { k }
+        if v == self.variable && self.low < self.high && self.high < k {
+            k - 1
+        } else {
+            k
+        }
     }
 
     fn value(&self, v: usize, x: u16) -> u16 {
@@ -59,7 +64,11 @@ impl Single for Pair {
 }
 
 impl Neutral for Pair {
-    // No value is below itself.
+    // no value is below itself
+    ghost idle = { λ pair. pair.high ≤ pair.low };
+
+    ghost changes_nothing = { λ pair t none law. join_nothing pair.variable pair.low pair.high t none };
+
     fn neutral() -> Self {
         Pair {
             variable: 0,

@@ -1,8 +1,11 @@
 // Leave-out: a layer that keeps a set of variables.
 #![tactic(auto)]
 
-ghost use Rattle.std.specs.Prelude.{[], ◌∷◌, refl};
+ghost use Rattle.std.specs.Prelude.{◌≡◌, [], ◌∷◌, refl};
+ghost use Rattle.std.proofs.Common.{ap, ◌∙◌};
+ghost use Rattle.model.specs.LeaveOut.{leave_out};
 ghost use Rattle.model.specs.Stack.{keeping};
+ghost use Rattle.model.proofs.LeavingOut.{leave_out_nothing};
 ghost use Rattle.reduction.specs.Settings.{MaskWrong};
 
 use reduction::coarsening::{Coarsening, Neutral, Single};
@@ -55,7 +58,11 @@ impl Single for Keep {
 }
 
 impl Neutral for Keep {
-    // A mask of all variables leaves nothing out.
+    // a mask of all variables leaves nothing out
+    ghost idle = { λ keep. keep.mask ≡ 4294967295 };
+
+    ghost changes_nothing = { λ keep t all law. ap (λ mask. leave_out mask t) all ∙ leave_out_nothing t law };
+
     fn neutral() -> Self {
         Keep { mask: u32::MAX }
     }

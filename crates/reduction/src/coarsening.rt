@@ -27,26 +27,36 @@ pub trait Coarsening {
     fn wanted(&self, v: usize, x: Option<u16>) -> Option<u16>
         ensures { result ≡ stack_wanted (layers self.now) v x };
 
+    // The task that they make is a reduction of the one below.
     ghost reduces: { (l : Self) (t : Task) → Reduces t (stacked (layers l) t) (stack_image (layers l)) } = { λ l t. stacked_reduces (layers l) t };
 }
 
-// A layer by itself, which can be tested before it is set over a task.
+// One layer, which can be tested before it is set over a task.
 pub trait Single: Coarsening {
+    // the layer that it is
     ghost layering: { Self → Layering };
 
     // what is wrong with it over a task
     ghost wrong: { Task → Self → ReductionFault → Type 0 };
 
+    // Tests it over the source.
     fn check<S: TaskSource>(&self, source: &S) -> Result<(), ReductionFault>
         ensures { Tests (wrong (S.TaskSource.task source.now) self.now) result };
 
+    // There is no other layer.
     ghost alone: { (l : Self) → Self.layers l ≡ layering l ∷ [] };
 }
 
 // A kind of layer of which one changes no task.
 pub trait Neutral: Coarsening {
+    // which ones change nothing
+    ghost idle: { Self → Type 0 };
+
+    // One that changes nothing.
     fn neutral() -> Self
-        ensures { (t : Task) → Lawful t → stacked (Self.layers result) t ≡ t };
+        ensures { idle result };
+
+    ghost changes_nothing: { (l : Self) (t : Task) → idle l → Lawful t → stacked (Self.layers l) t ≡ t };
 }
 
 // Layers one over the other.

@@ -68,6 +68,6 @@ impl<S: TaskSource> Reduction for Ground<S> {
 
     fn image(&self, v: usize, x: u16) -> Option<u16> {
         let size = self.source.size(v)?;
-        if x < size { Some(x) } else { None }
+        (x < size).then_some(x)
     }
 }

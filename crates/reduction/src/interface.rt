@@ -35,15 +35,8 @@ pub fn image_of<R: Reduction>(pile: &R, v: usize, x: u16) -> Option<u16>
     ensures plans { PlansGoUp (R.Reduction.lowest pile.now) (R.TaskSource.task pile.now) }
     ensures hopeless { HopelessGoesDown (R.Reduction.lowest pile.now) (R.TaskSource.task pile.now) (R.Reduction.sends pile.now) }
 {
-    carries_plans(pile);
     pile.image(v, x)
 }
-
-// The law of a pile, from image to image, holds of whole operator lists.
-fn carries_plans<R: Reduction>(pile: &R)
-    ensures plans { PlansGoUp (R.Reduction.lowest pile.now) (R.TaskSource.task pile.now) }
-    ensures hopeless { HopelessGoesDown (R.Reduction.lowest pile.now) (R.TaskSource.task pile.now) (R.Reduction.sends pile.now) }
-{}
 
 // A reduction of a reduction is one.
 pub fn reductions_compose()

@@ -1,4 +1,4 @@
-// A source under layers.
+// A source under a layer, or under a list of layers, the lowest first.
 ghost use Rattle.std.specs.Prelude.{◌≡◌, map, MatchResult, OnOk, refl};
 ghost use Rattle.model.specs.Stack.{layered, stack_image, stacked};
 ghost use Rattle.model.proofs.Stacking.{stacked_lawful};
@@ -11,6 +11,7 @@ use crate::ground::Ground;
 use crate::interface::Reduction;
 use task::source::TaskSource;
 
+// The task that the layers make of the source's, and over a pile a higher pile.
 #[derive(Drop)]
 pub struct Over<S, L> {
     source: S,
@@ -57,8 +58,8 @@ impl<S: TaskSource, L> Over<Ground<S>, Vec<L>> {
 }
 
 impl<S: TaskSource, L: Single + Drop> Over<S, Vec<L>> {
-    #[tactic(auto, using(crate::specs::Layers::put_on_top))]
     // Puts a layer on top. Declined, or for want of memory, the pile stays as it was.
+    #[tactic(auto, using(crate::specs::Layers::put_on_top))]
     pub fn put(&mut self, layer: L) -> Result<(), PutError>
         ensures tests { PutTests (L.wrong (stacked (map L.layering self.old.layer.items) (S.TaskSource.task self.old.source)) layer) result }
         ensures below { self.new.source ≡ self.old.source }

@@ -7,5 +7,8 @@ use Rattle.reduction.proofs.coarsening.VecCoarsening.value.Goals as goal
 pub returns : goal.returns
 returns g c =
     let v = c.args.v in
+    let l = g.L in
     rw (← c.deref.ensures.value, ← c.iter.ensures.rest)
-    (passed_all (λ ls x. stack_image ls v x) (λ x. refl) (λ ls l x. stack_image_more ls l v x) g.L.Single.layering g.L.Coarsening.layers g.met.L.Single.alone _ _ (λ y l z f' k. search rules) c.iter.result c.args.x c.fold.result c.fold.ensures.ran)
+    (passed_all (λ ls x. stack_image ls v x) (λ x. refl) (λ ls l x. stack_image_more ls l v x)
+    l.Single.layering l.Coarsening.layers g.met.L.Single.alone _ _ (λ y l z f' k. search rules)
+    c.iter.result c.args.x c.fold.result c.fold.ensures.ran)
