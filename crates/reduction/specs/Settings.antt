@@ -1,4 +1,4 @@
--- What is wrong with a leave-out or a join over a task.
+-- What is wrong with a leave-out or a join over a task, and what is answered to a layer that is set over it.
 use Rattle.std.specs.Prelude.{◌≡◌, ℕ, ◌<◌, ◌≤◌, true, List, [], ◌∷◌, ◌++◌, Ok, Err, Result}
 use Rattle.model.specs.Tasks.{Task}
 use Rattle.model.specs.Orders.{First}

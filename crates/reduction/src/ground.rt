@@ -1,5 +1,5 @@
 // The foot of a pile.
-ghost use Rattle.std.specs.Prelude.{◌≡◌, refl};
+ghost use Rattle.std.specs.Prelude.{◌≡◌};
 ghost use Rattle.model.proofs.Reducing.{reduces_self};
 
 use crate::interface::Reduction;
@@ -54,13 +54,9 @@ impl<S: TaskSource> TaskSource for Ground<S> {
 }
 
 impl<S: TaskSource> Reduction for Ground<S> {
-    ghost top = { λ s. S.TaskSource.task s.source };
-
     ghost lowest = { λ s. S.TaskSource.task s.source };
 
     ghost sends = { λ s v x. x };
-
-    ghost tied = { λ s. refl };
 
     ghost grounded = { λ s. S.TaskSource.lawful s.source };
 

@@ -8,9 +8,6 @@ use task::source::TaskSource;
 // A source that is a coarser task over another, or a pile of such over a lowest source. It also tells where the values of the lowest
 // task go. Its law: start goes to start, goal positions go to goal positions, and operators lead from image to image.
 pub trait Reduction: TaskSource {
-    // the task, among the interface's own meanings
-    ghost top: { Self → Task };
-
     // the task at the foot of the pile
     ghost lowest: { Self → Task };
 
@@ -21,11 +18,9 @@ pub trait Reduction: TaskSource {
     fn image(&self, v: usize, x: u16) -> Option<u16>
         ensures { result ≡ image_in (lowest self.now) (sends self.now) v x };
 
-    ghost tied: { (s : Self) → top s ≡ Self.TaskSource.task s };
-
     ghost grounded: { (s : Self) → Lawful (lowest s) };
 
-    ghost reduces: { (s : Self) → Reduces (lowest s) (top s) (sends s) };
+    ghost reduces: { (s : Self) → Reduces (lowest s) (Self.TaskSource.task s) (sends s) };
 }
 
 // The image of a value of the lowest task, in any pile. Each plan of the lowest task is a plan of the pile's task, so a position whose

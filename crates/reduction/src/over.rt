@@ -1,9 +1,9 @@
 // A source under a layer, or under a list of layers, the lowest first.
-ghost use Rattle.std.specs.Prelude.{◌≡◌, map, MatchResult, OnOk, refl};
+ghost use Rattle.std.specs.Prelude.{◌≡◌, map, MatchResult, OnOk};
 ghost use Rattle.model.specs.Stack.{layered, stack_image, stacked};
+ghost use Rattle.model.proofs.Reducing.{compose};
 ghost use Rattle.model.proofs.Stacking.{stacked_lawful};
 ghost use Rattle.reduction.specs.Settings.{Tests, PutTests, Puts};
-ghost use Rattle.reduction.specs.Layers.{over_pile};
 
 use crate::coarsening::{Coarsening, Neutral, Single};
 use crate::fault::{PutError, ReductionFault};
@@ -59,7 +59,7 @@ impl<S: TaskSource, L> Over<Ground<S>, Vec<L>> {
 
 impl<S: TaskSource, L: Single + Drop> Over<S, Vec<L>> {
     // Puts a layer on top. Declined, or for want of memory, the pile stays as it was.
-    #[tactic(auto, using(crate::specs::Layers::put_on_top))]
+    #[tactic(auto, using(crate::proofs::Layers::put_on_top))]
     pub fn put(&mut self, layer: L) -> Result<(), PutError>
         ensures tests { PutTests (L.wrong (stacked (map L.layering self.old.layer.items) (S.TaskSource.task self.old.source)) layer) result }
         ensures below { self.new.source ≡ self.old.source }
@@ -118,17 +118,13 @@ impl<S: TaskSource, L: Coarsening> TaskSource for Over<S, L> {
 }
 
 impl<R: Reduction, L: Coarsening> Reduction for Over<R, L> {
-    ghost top = { λ s. stacked (L.layers s.layer) (R.TaskSource.task s.source) };
-
     ghost lowest = { λ s. R.Reduction.lowest s.source };
 
     ghost sends = { λ s v x. stack_image (L.layers s.layer) v (R.Reduction.sends s.source v x) };
 
-    ghost tied = { λ s. refl };
-
     ghost grounded = { λ s. R.Reduction.grounded s.source };
 
-    ghost reduces = { λ s. over_pile (R.Reduction.tied s.source) (R.Reduction.reduces s.source) (L.reduces s.layer (R.TaskSource.task s.source)) };
+    ghost reduces = { λ s. compose _ _ _ _ _ (R.Reduction.reduces s.source) (L.reduces s.layer (R.TaskSource.task s.source)) };
 
     fn image(&self, v: usize, x: u16) -> Option<u16> {
         let y = self.source.image(v, x)?;
