@@ -24,6 +24,7 @@ pub fn frame_count(candidates: u32, k: usize) -> u32
 }
 
 // The number of a set of candidates among all that have as many variables.
+#[tactic(auto, using(crate::proofs::Walking::count_up_in, crate::proofs::Windows::count_le))]
 pub fn number_of(candidates: u32, mask: u32) -> Option<u32>
     ensures { Numbered candidates mask result }
 {
@@ -56,6 +57,7 @@ pub fn frame_of(candidates: u32, k: usize, number: u32) -> Option<u32>
 }
 
 // The set of k candidates with a number that there is.
+#[tactic(auto, using(crate::proofs::Walking::count_up_in, crate::proofs::Windows::count_le))]
 fn set_at(candidates: u32, k: usize, number: u32) -> u32
     requires { number < length (frames candidates k) }
     ensures { result ≡ slice_index (frames candidates k) number }
