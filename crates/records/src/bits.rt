@@ -34,7 +34,7 @@ pub struct Bytes<'a> {
     pub bytes: &'a [u8],
 }
 
-impl<'a> CodeSet for Bytes<'a> {
+impl CodeSet for Bytes<'_> {
     ghost members = { λ s. bit_of s.bytes.now };
 
     fn contains(&self, c: usize) -> bool {

@@ -35,6 +35,7 @@ impl<'r, 'p> Register<'r, 'p> {
 }
 
 impl Register<'_, '_> {
+    // How much memory it holds.
     fn memory(&self) -> Memory
         ensures { result ≡ memory_of self.now }
     {

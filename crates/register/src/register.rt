@@ -10,7 +10,7 @@ use shelves::verdict::Verdict;
 
 // The first `count` records are the shelves, by their numbers, and their bytes are the first `top` bytes of the pool: the memory is lent
 // and fixed, so what is taken of it is counted beside it. The variables are those of the task that was opened; before the opening there
-// are none.
+// are none. It has no model: its contracts speak of its state and of the memory behind it.
 #[derive(Drop)]
 pub struct Register<'r, 'p> {
     pub(crate) records: &'r mut [Shelf],
