@@ -1,26 +1,32 @@
--- Two lawful tasks that answer every question alike are equal.
-use Rattle.std.proofs.Common.{◌≡◌, ◌↔◌, subst, arith, rules}
-use mathlib.Core.Path.{fun_ext}
+-- Tasks that agree are equal, and so are two lawful ones that answer every question alike.
+use Rattle.std.proofs.Common.{◌≡◌, ℕ, ◌↔◌, subst, arith, rules}
 use Rattle.std.proofs.lemmas.Bool.Decides.{nat_tests}
 use Rattle.model.specs.Tasks.{Task, Lawful, Alike}
+use Rattle.model.proofs.Positions.{start_outside}
 
-module _ (t u : Task) (law-t : Lawful t) (law-u : Lawful u) (e : Alike t u) where
-  size_same : t.size ≡ u.size
-  size_same = fun_ext (λ v. grind (arith, nat_tests, e.size v, e.variables, law-t.outside v, law-u.outside v))
+pub same_task : (t u : Task)
+    → (t.n ≡ u.n) × (t.m ≡ u.m) × ((v : ℕ) → t.size v ≡ u.size v) × ((o v : ℕ) → t.needed o v ≡ u.needed o v) × ((o v : ℕ) → t.made o v ≡ u.made o v) × ((v : ℕ) → t.start v ≡ u.start v) × ((v : ℕ) → t.goal v ≡ u.goal v)
+    → t ≡ u
+same_task t u (n, m, size, needed, made, start, goal) = λ i. record {
+  n = n i;
+  m = m i;
+  size = λ v. size v i;
+  needed = λ o v. needed o v i;
+  made = λ o v. made o v i;
+  start = λ v. start v i;
+  goal = λ v. goal v i;
+}
 
-  start_same : t.start ≡ u.start
-  start_same = fun_ext (λ v. grind (arith, nat_tests, e.start v, e.variables, law-t.outside v, law-u.outside v, law-t.starts v, law-u.starts v))
-
-  alike_same : t ≡ u
-  alike_same = λ i. record {
-    n = e.variables i;
-    m = e.operators i;
-    size = size_same i;
-    needed = λ o v. e.needed o v i;
-    made = λ o v. e.made o v i;
-    start = start_same i;
-    goal = λ v. e.goal v i;
-  }
+alike_same : (t u : Task) → Lawful t → Lawful u → Alike t u → t ≡ u
+alike_same t u law-t law-u e = same_task t u (
+  e.variables,
+  e.operators,
+  λ v. grind (arith, nat_tests, e.size v, e.variables, law-t.outside v, law-u.outside v),
+  e.needed,
+  e.made,
+  λ v. grind (arith, nat_tests, e.start v, e.variables, start_outside t law-t v, start_outside u law-u v),
+  e.goal,
+)
 
 pub alike_when_same : (t u : Task) → Lawful t → Lawful u → Alike t u ↔ (t ≡ u)
 alike_when_same t u law-t law-u = (alike_same t u law-t law-u, λ e. subst (Alike t) e (search rules))

@@ -1,5 +1,5 @@
 -- The sets of k variables out of some candidates, in the order of their ascending lists; all n variables are one case.
-use Rattle.std.proofs.Common.{◌≡◌, ℕ, zero, suc, ◌+◌, ◌-◌, ◌*◌, ◌/◌, ◌%◌, ◌^◌, ◌<◌, ◌≤◌, Bool, true, cond, eqb, ◌⊎◌, ◌↔◌, List, [], ◌∷◌, ◌++◌, map, length, refl, subst, inl, inr, arith, pow_pos}
+use Rattle.std.proofs.Common.{◌≡◌, ℕ, zero, suc, ◌+◌, ◌-◌, ◌*◌, ◌/◌, ◌%◌, ◌^◌, ◌<◌, ◌≤◌, Bool, true, cond, eqb, ◌⊎◌, ◌↔◌, List, [], ◌∷◌, ◌++◌, map, length, refl, subst, inl, arith, pow_pos}
 use lib.Count.{ones, ones_step, ones-le}
 use lib.ListN.{length-map}
 use Rattle.std.specs.List.{AllByRecursion}
@@ -105,12 +105,11 @@ module _ (m n : ℕ) (d : ℕ → ℕ) (keep : (f g : ℕ) → Earlier (members 
 all_append : (P : ℕ → Type 0) (xs ys : List ℕ) → AllByRecursion P xs → ((y : ℕ) → In y ys → P y) → AllByRecursion P (xs ++ ys)
 all_append P [] [] a h = tt
 all_append P [] (y ∷ ys) a h = grind (arith, h, all_append P [] ys)
-all_append P (x ∷ xs) ys a h = (a.0, all_append P xs ys a.1 h)
+all_append P (x ∷ xs) ys a h = grind (arith, all_append P xs ys)
 
 order_append : (n : ℕ) (xs ys : List ℕ) → InOrder n xs → InOrder n ys → ((x y : ℕ) → In x xs → In y ys → Earlier (members n x) (members n y)) → InOrder n (xs ++ ys)
 order_append n [] ys o p h = p
-order_append n (x ∷ xs) ys o p h =
-    (all_append (λ g. Earlier (members n x) (members n g)) xs ys o.0 (λ y i. h x y (inl refl) i), order_append n xs ys o.1 p (λ z y i j. h z y (inr i) j))
+order_append n (x ∷ xs) ys o p h = grind (arith, all_append (λ g. Earlier (members n x) (members n g)) xs ys, h, order_append n xs ys)
 
 order_cond : (n : ℕ) (b : Bool) (xs : List ℕ) → InOrder n xs → InOrder n (cond b xs [])
 order_cond n b xs o = grind arith

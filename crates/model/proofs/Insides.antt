@@ -1,11 +1,12 @@
 -- A set of variables inside another: the smaller projection is a reduction of the larger, and codes in it are the same.
-use Rattle.std.proofs.Common.{◌≡◌, ℕ, zero, suc, cond, T, None, refl, ap, sym, ◌∙◌, subst, arith}
+use Rattle.std.proofs.Common.{◌≡◌, ℕ, zero, suc, T, refl, ap, sym, ◌∙◌, subst, arith}
 use Rattle.std.proofs.lemmas.Bool.Decides.{nat_tests}
 use Rattle.std.proofs.lemmas.Nat.Bits.{bit_at_and}
 use Rattle.model.specs.Tasks.{Task, Position, Legal, Lawful}
 use Rattle.model.specs.Reductions.{Reduces, image_of}
 use Rattle.model.specs.LeaveOut.{has, kept}
 use Rattle.model.specs.Frames.{inside, strictly_inside, onto, code_below, code, values}
+use Rattle.model.proofs.Answering.{same_task}
 use Rattle.model.proofs.LeavingOut.{leave_out_reduces}
 use Rattle.model.proofs.Coding.{code_kept, values_code}
 
@@ -19,19 +20,10 @@ has_inside g f v i h = grind (arith, nat_tests, bit_at_and g f v)
 -- ---- the projection of a projection
 
 module _ (g f : ℕ) (t : Task) (i : T (inside g f)) where
-  twice : {A : Type 0} (v : ℕ) (x d : A) → cond (has g v) (cond (has f v) x d) d ≡ cond (has g v) x d
-  twice v x d = grind (arith, nat_tests, has_inside g f v i)
-
   onto_onto : onto g (onto f t) ≡ onto g t
-  onto_onto = λ j. record {
-    n = t.n;
-    m = t.m;
-    size = λ v. twice v (t.size v) 1 j;
-    needed = λ o v. twice v (t.needed o v) None j;
-    made = λ o v. twice v (t.made o v) None j;
-    start = λ v. twice v (t.start v) 0 j;
-    goal = λ v. twice v (t.goal v) None j;
-  }
+  onto_onto =
+      let outer : (v : ℕ) → T (has g v) → T (has f v) = λ v. has_inside g f v i in
+      same_task (onto g (onto f t)) (onto g t) (grind arith)
 
   pub leave_more_out : Reduces (onto f t) (onto g t) (kept g)
   leave_more_out = subst (λ u. Reduces (onto f t) u (kept g)) onto_onto (leave_out_reduces g (onto f t))

@@ -1,5 +1,5 @@
 -- Reductions carry operator lists up and hopelessness down, and compose.
-use Rattle.std.proofs.Common.{ℕ, ◌<◌, List, [], ◌∷◌, sym, ap, ◌∙◌, subst, arith, rules}
+use Rattle.std.proofs.Common.{ℕ, List, [], ◌∷◌, ap, ◌∙◌, subst, arith, rules}
 use Rattle.model.specs.Tasks.{Task, Position, Legal, Lawful, after, Leads, Hopeless}
 use Rattle.model.specs.Reductions.{image_of, Reduces, PlansGoUp, HopelessGoesDown, ReductionsCompose}
 
@@ -33,13 +33,13 @@ reduces_self t = search rules
 
 pub compose : ReductionsCompose
 compose a b c f g r s = record {
-  variables = s.variables ∙ r.variables;
-  operators = s.operators ∙ r.operators;
+  variables = cc;
+  operators = cc;
   legal = λ p h. s.legal (image_of f p) (r.legal p h);
   start = ap (image_of g) r.start ∙ s.start;
   goal = λ p k h. s.goal (image_of f p) (r.legal p k) (r.goal p k h);
   step = λ o p k l h.
       let one = r.step o p k l h in
-      let two = s.step o (image_of f p) (r.legal p k) (subst (λ m. o < m) (sym r.operators) l) one.0 in
+      let two = s.step o (image_of f p) (r.legal p k) (omega (arith, r.operators)) one.0 in
       (two.0, two.1 ∙ ap (image_of g) one.1);
 }

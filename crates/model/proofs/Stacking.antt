@@ -1,5 +1,5 @@
 -- A pile of layers is the layers one over the other. It keeps the limits, and is a reduction.
-use Rattle.std.proofs.Common.{◌≡◌, List, [], ◌∷◌, ◌++◌, sym, refl, ap, ◌∙◌}
+use Rattle.std.proofs.Common.{◌≡◌, List, [], ◌∷◌, ◌++◌, sym, refl}
 use Rattle.model.specs.Tasks.{Task, Lawful}
 use Rattle.model.specs.Reductions.{Reduces}
 use Rattle.model.specs.Stack.{Layering, keeping, joining, layered, layer_image, stack_image, stacked}
@@ -33,4 +33,4 @@ stacked_reduces (l ∷ ls) t =
 -- one layer more, on top
 pub stacked_more : (ls : List Layering) (l : Layering) (t : Task) → stacked (ls ++ (l ∷ [])) t ≡ layered l (stacked ls t)
 stacked_more [] l t = sym (stacked_first l [] t)
-stacked_more (j ∷ ls) l t = sym (stacked_first j (ls ++ (l ∷ [])) t) ∙ stacked_more ls l (layered j t) ∙ ap (layered l) (stacked_first j ls t)
+stacked_more (j ∷ ls) l t = cc (stacked_first j (ls ++ (l ∷ [])) t, stacked_more ls l (layered j t), stacked_first j ls t)
