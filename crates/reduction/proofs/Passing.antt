@@ -9,7 +9,12 @@ use Rattle.std.proofs.lemmas.Fn.{fronts, slice_gives, fold_over}
 use Rattle.model.specs.Stack.{Layering}
 
 -- `all` passes a value through a list of layers
-module _ {A : Type 0} (all : List Layering → A → A) (none : (x : A) → x ≡ all [] x) (more : (ls : List Layering) (l : Layering) (x : A) → all (ls ++ (l ∷ [])) x ≡ all (l ∷ []) (all ls x)) where
+module _ {A : Type 0} (all : List Layering → A → A) (none : (x : A) → x ≡ all [] x) (first : (l : Layering) (ls : List Layering) (x : A) → all (l ∷ ls) x ≡ all ls (all (l ∷ []) x)) where
+  -- through one layer more, on top
+  more : (ls : List Layering) (l : Layering) (x : A) → all (ls ++ (l ∷ [])) x ≡ all (l ∷ []) (all ls x)
+  more [] l x = ap (all (l ∷ [])) (none x)
+  more (j ∷ ls) l x = first j (ls ++ (l ∷ [])) x ∙ more ls l (all (j ∷ []) x) ∙ ap (all (l ∷ [])) (sym (first j ls x))
+
   -- through the layers ys, and then through l
   passed_more : {L : Type 0} (layering : L → Layering) (layers : List Layering) (ys : List L) (l : L) (x y z : A) → layers ≡ layering l ∷ [] → y ≡ all (map layering ys) x → z ≡ all layers y → z ≡ all (map layering (ys ++ (l ∷ []))) x
   passed_more layering layers ys l x y z e h k =

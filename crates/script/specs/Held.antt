@@ -23,5 +23,5 @@ pub data Held : Type 0 where
 
 abbrev pub held : Option Pile → Held
 held None = nothing
-held (Some (over.Card s)) = pile (words (vec_items s.source.words)) (vec_items s.layers)
-held (Some (over.Ring s)) = pile (places s.source.n) (vec_items s.layers)
+held (Some (over.Card s)) = pile (words (vec_items s.source.source.words)) (vec_items s.layer)
+held (Some (over.Ring s)) = pile (places s.source.source.n) (vec_items s.layer)

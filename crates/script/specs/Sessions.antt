@@ -31,8 +31,8 @@ Tops (pile f ls) l h' =
 abbrev pub Becomes : Held → Saying → Held → Type 0
 Becomes h (card ws) h' = (cards.IsCard ws × (h' ≡ pile (words ws) [])) ⊎ ((e : CardFault) × First card_turn (CardWrong ws) e × (h' ≡ h))
 Becomes h (ring n) h' = ((1 ≤ n) × (n ≤ 32) × (h' ≡ pile (places n) [])) ⊎ (((1 ≤ n) × (n ≤ 32) → ⊥) × (h' ≡ h))
-Becomes h (leave_out mask) h' = Tops h (Keep mask) h'
-Becomes h (join v a b) h' = Tops h (Join v a b) h'
+Becomes h (leave_out mask) h' = Tops h (Keep (record { mask = mask })) h'
+Becomes h (join v a b) h' = Tops h (Join (record { variable = v; low = a; high = b })) h'
 Becomes h task h' = h' ≡ h
 Becomes h (follow os) h' = h' ≡ h
 Becomes h (image v x) h' = h' ≡ h

@@ -1,7 +1,7 @@
 // The task of a session.
 use card::OwnedCard;
 use ring::Ring;
-use stack::pile::Stack;
+use stack::Stack;
 
 // Leave-outs and joins, in a pile over a card or a ring.
 #[derive(Drop)]

@@ -12,8 +12,8 @@ use command::parse::parse;
 use layout::fault::CardFault;
 use ring::Ring;
 use ring::fault::RingFault;
-use stack::layer::Layer;
-use stack::pile::Stack;
+use stack::Stack;
+use stack::layer::{Keep, Layer, Pair};
 use std::alloc::Global;
 use std::io;
 use std::marker::Model;
@@ -82,7 +82,7 @@ impl Session {
                 println!(rt; "ring: {n} variables, {n} operators")?;
             }
             Command::LeaveOut(mask) => {
-                self.put(Layer::Keep(mask))?;
+                self.put(Layer::Keep(Keep { mask }))?;
                 println!(rt; "leave-out: kept")?;
             }
             Command::Join {
@@ -90,11 +90,11 @@ impl Session {
                 low,
                 high,
             } => {
-                self.put(Layer::Join {
+                self.put(Layer::Join(Pair {
                     variable: variable as usize,
                     low,
                     high,
-                })?;
+                }))?;
                 println!(rt; "join: joined")?;
             }
             Command::Ask(query) => self.ask(rt, &query)?,
@@ -109,16 +109,15 @@ impl Session {
     {
         let card = OwnedCard::of(words)?;
         let counts = (card.variables(), card.operators());
-        self.pile = Some(Pile::Card(Stack::over(card, Vec::new(self.heap))));
+        self.pile = Some(Pile::Card(Stack::with_layers(card, Vec::new(self.heap))));
         Ok(counts)
     }
 
     fn take_ring(&mut self, n: usize) -> Result<(), RingFault>
         ensures { Becomes self.old (ring n) self.new }
     {
-        let mut ring = Ring::new();
-        ring.set(n)?;
-        self.pile = Some(Pile::Ring(Stack::over(ring, Vec::new(self.heap))));
+        let ring = Ring::try_from(n)?;
+        self.pile = Some(Pile::Ring(Stack::with_layers(ring, Vec::new(self.heap))));
         Ok(())
     }
 
@@ -127,10 +126,11 @@ impl Session {
         ensures { CarriedOut result (Tops self.old layer self.new) (self.new ≡ self.old) }
     {
         match &mut self.pile {
-            None => Err(Trouble::NoTask),
-            Some(Pile::Card(pile)) => pile.put(layer)?.map_err(declined),
-            Some(Pile::Ring(pile)) => pile.put(layer)?.map_err(declined),
+            None => return Err(Trouble::NoTask),
+            Some(Pile::Card(pile)) => pile.put(layer)?,
+            Some(Pile::Ring(pile)) => pile.put(layer)?,
         }
+        Ok(())
     }
 
     // Asks the task.

@@ -4,6 +4,7 @@ ghost use Rattle.task.specs.declared.refusal.Refusal.{Refusal};
 ghost use Rattle.script.specs.declared.trouble.Trouble.TheVariants.{Declined, Machine};
 
 use command::kinds::{LineFault, ParseError};
+use reduction::fault::PutError;
 use std::alloc::AllocError;
 use std::io;
 use task::refusal::{Fault, Refusal};
@@ -36,6 +37,19 @@ impl From<ParseError> for Trouble {
         match e {
             ParseError::Line(fault) => Trouble::Line(fault),
             ParseError::OutOfMemory(full) => full.into(),
+        }
+    }
+}
+
+impl From<PutError> for Trouble {
+    ghost use Rattle.script.specs.Troubles.{not_put};
+
+    ghost from_gives = { λ e t. not_put e t };
+
+    fn from(e: PutError) -> Trouble {
+        match e {
+            PutError::Declined(fault) => declined(fault),
+            PutError::NoMemory(full) => full.into(),
         }
     }
 }

@@ -1,6 +1,5 @@
 use Rattle.std.proofs.Common.{rules, refl}
 use Rattle.model.specs.Stack.{stack_size}
-use Rattle.model.proofs.Stacking.{stack_size_more}
 use Rattle.reduction.proofs.Passing.{passed_all}
 use Rattle.reduction.proofs.coarsening.VecCoarsening.size.Goals as goal
 
@@ -9,6 +8,6 @@ returns g c =
     let v = c.args.v in
     let l = g.L in
     rw (← c.deref.ensures.value, ← c.iter.ensures.rest)
-    (passed_all (λ ls x. stack_size ls v x) (λ x. refl) (λ ls l x. stack_size_more ls l v x)
+    (passed_all (λ ls x. stack_size ls v x) (λ x. refl) (λ l ls x. refl)
     l.Single.layering l.Coarsening.layers g.met.L.Single.alone _ _ (λ y l z f' k. search rules)
     c.iter.result c.args.k c.fold.result c.fold.ensures.ran)
