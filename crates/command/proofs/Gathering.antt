@@ -1,6 +1,6 @@
 -- What `map` and then `try_collect` gather from a source: a value for each item, or the first fault.
-use Rattle.std.proofs.Common.{◌≡◌, ℕ, Bool, true, false, cond, zero, suc, ◌+◌, ◌<◌, ◌≤◌, ◌⊎◌, ⊎_elim, List, [], ◌∷◌, ◌++◌, map, length, Some, None, Ok, Err, Vec, Global, vec_items, vec_len, vec_capacity, Option, Result, IfOk, sym, refl, ap, ap₂, ◌∙◌, subst, append-nil, append_assoc, arith}
-use Rattle.std.specs.Option.{IsSomeAnd, ok_or}
+use Rattle.std.proofs.Common.{◌≡◌, ℕ, zero, suc, ◌+◌, ◌<◌, ◌≤◌, ◌⊎◌, ⊎_elim, List, [], ◌∷◌, ◌++◌, map, length, Some, None, Ok, Err, Vec, Global, vec_items, vec_len, vec_capacity, Option, Result, IfOk, sym, refl, ap, ap₂, ◌∙◌, subst, append-nil, append_assoc, arith}
+use Rattle.std.specs.Option.{IsSomeAnd}
 use Rattle.std.specs.List.{slice_get, FoldsTo}
 use Rattle.std.specs.Result.{IfErr, result_map_both}
 use Rattle.std.specs.Iterator.{Yields, TryCollects}
@@ -19,57 +19,45 @@ use Rattle.command.specs.declared.kinds.ParseError.{ParseError}
 use Rattle.command.specs.declared.kinds.ParseError.TheVariants.{Line, OutOfMemory}
 use Rattle.command.specs.Faults.{IfMemorySuffices}
 
--- a value, or a line's fault
-abbrev pub told : Result ℕ LineFault → Result ℕ ParseError
-told r = result_map_both (λ y. y) Line r
-
-told_ok : (r : Result ℕ LineFault) (y : ℕ) → Ok y ≡ told r → r ≡ Ok y
-told_ok (Ok x) y e = cc
-told_ok (Err e) y h = absurd (cc)
-
-told_fault : (r : Result ℕ LineFault) (fault : LineFault) → Err (Line fault) ≡ told r → r ≡ Err fault
-told_fault (Ok x) fault h = absurd (cc)
-told_fault (Err e) fault h = cc
-
-pub told_if : (b : Bool) (x : ℕ) (fault : LineFault) → cond b (Ok x) (Err (Line fault)) ≡ told (cond b (Ok x) (Err fault))
-told_if true x fault = refl
-told_if false x fault = refl
-
-pub told_or : (o : Option ℕ) (fault : LineFault) → ok_or o (Line fault) ≡ told (ok_or o fault)
-told_or None fault = refl
-told_or (Some x) fault = refl
-
--- the first is put before the others, if neither is a fault
-abbrev pub joined : Result ℕ LineFault → Result (List ℕ) LineFault → Result (List ℕ) LineFault
+-- the first is put before the others, if neither is an error
+abbrev pub joined : Result ℕ ParseError → Result (List ℕ) ParseError → Result (List ℕ) ParseError
 joined (Err e) r = Err e
 joined (Ok y) (Err e) = Err e
 joined (Ok y) (Ok ys) = Ok (y ∷ ys)
 
-module _ {X : Type 0} (h : X → Result ℕ LineFault) where
-  abbrev pub gathers : List X → Result (List ℕ) LineFault
+module _ {X : Type 0} (h : X → Result ℕ ParseError) where
+  abbrev pub gathers : List X → Result (List ℕ) ParseError
   gathers [] = Ok []
   gathers (x ∷ xs) = joined (h x) (gathers xs)
 
-  all_ok : (xs : List X) (ys : List ℕ) → map (λ x. told (h x)) xs ≡ map Ok ys → gathers xs ≡ Ok ys
+  all_ok : (xs : List X) (ys : List ℕ) → map h xs ≡ map Ok ys → gathers xs ≡ Ok ys
   all_ok [] [] e = refl
   all_ok [] (y ∷ ys) e = absurd (cc)
   all_ok (x ∷ xs) [] e = absurd (cc)
   all_ok (x ∷ xs) (y ∷ ys) e =
-      let first : Ok y ≡ told (h x) = cc in
-      let others : map (λ x. told (h x)) xs ≡ map Ok ys = cc in
-      rw (told_ok (h x) y first) (rw (all_ok xs ys others) refl)
+      let first : h x ≡ Ok y = cc in
+      let others : map h xs ≡ map Ok ys = cc in
+      rw first (rw (all_ok xs ys others) refl)
 
-  first_fault : (xs more : List X) (i : ℕ) (fault : LineFault) → IsSomeAnd (slice_get (map (λ x. told (h x)) xs) i) (λ r. Err (Line fault) ≡ r)
-      → ((k : ℕ) → k < i → IsSomeAnd (slice_get (map (λ x. told (h x)) xs) k) (λ r. (y : ℕ) × (Ok y ≡ r))) → gathers (xs ++ more) ≡ Err fault
-  first_fault [] more i fault at below = absurd at
-  first_fault (x ∷ xs) more zero fault at below = rw (told_fault (h x) fault at) refl
-  first_fault (x ∷ xs) more (suc i) fault at below =
-      let first = below 0 (omega arith) in
-      rw (told_ok (h x) first.0 first.1) (rw (first_fault xs more i fault at (λ k l. below (suc k) (omega arith))) refl)
+  first_err : (xs more : List X) (i : ℕ) (e : ParseError) → IsSomeAnd (slice_get (map h xs) i) (λ r. Err e ≡ r)
+      → ((k : ℕ) → k < i → IsSomeAnd (slice_get (map h xs) k) (λ r. (y : ℕ) × (Ok y ≡ r))) → gathers (xs ++ more) ≡ Err e
+  first_err [] more i e at below = absurd at
+  first_err (x ∷ xs) more zero e at below = rw (sym at) refl
+  first_err (x ∷ xs) more (suc i) e at below =
+      rw (sym (below 0 (omega arith)).1) (rw (first_err xs more i e at (λ k l. below (suc k) (omega arith))) refl)
+
+-- what is said of a result with a line's fault, from what is said of it with an error
+pub of_line : (found : Result (Vec ℕ Global) LineFault) (r : Result (List ℕ) LineFault)
+    → result_map_both vec_items Line found ≡ result_map_both (λ xs. xs) Line r → result_map_both vec_items (λ fault. fault) found ≡ r
+of_line (Ok v) (Ok xs) e = cc
+of_line (Ok v) (Err d) e = absurd (cc)
+of_line (Err d) (Ok xs) e = absurd (cc)
+of_line (Err d) (Err f) e = cc
 
 -- the values that were put into a list one by one
-values : {V E : Type 0} (items : V → List ℕ) (extends : V → List ℕ → V → Type 0) (law : (v w : V) (ys : List ℕ) → extends v ys w → items w ≡ items v ++ ys)
-    (xs : List (Result ℕ E)) (b v : V) → FoldsTo (λ p x q. (y : ℕ) × (Ok y ≡ x) × extends p (y ∷ []) q) b xs v → (ys : List ℕ) × (xs ≡ map Ok ys) × (items v ≡ items b ++ ys)
+values : {V E : Type 0} (items : V → List ℕ) (extends : V → List ℕ → V → Type 0)
+    (law : (v w : V) (ys : List ℕ) → extends v ys w → items w ≡ items v ++ ys) (xs : List (Result ℕ E)) (b v : V)
+    → FoldsTo (λ p x q. (y : ℕ) × (Ok y ≡ x) × extends p (y ∷ []) q) b xs v → (ys : List ℕ) × (xs ≡ map Ok ys) × (items v ≡ items b ++ ys)
 values items extends law [] b v e = ([], refl, ap items (sym e) ∙ sym (append-nil (items b)))
 values items extends law (x ∷ xs) b v e =
     let later = values items extends law xs e.0 v e.2 in
@@ -92,10 +80,10 @@ slices = record {
 }
 
 module _ {S A F X : Type 0} {steps : S → Option A → S → Type 0} {v : A → X} {Fine : S → Type 0} {Left : S → List X → Type 0} (source : Source steps v Fine Left)
-    (g : Mut F (A × Unit {0}) (Result ℕ ParseError)) (f : F) (h : X → Result ℕ LineFault)
-    (calls : (x : A) (r : Result ℕ ParseError) (q : F) → Called g f (x, tt) r q → (q ≡ f) × (r ≡ told (h (v x)))) where
+    (g : Mut F (A × Unit {0}) (Result ℕ ParseError)) (f : F) (h : X → Result ℕ ParseError)
+    (calls : (x : A) (r : Result ℕ ParseError) (q : F) → Called g f (x, tt) r q → (q ≡ f) × (r ≡ h (v x))) where
   through : (items : List (Result ℕ ParseError)) (s t : Map S F) → Yields (map_steps steps g) s items t → map_callee s ≡ f → Fine (map_source s)
-      → (xs : List X) × (items ≡ map (λ x. told (h x)) xs) × ((more : List X) → Left (map_source t) more → Left (map_source s) (xs ++ more)) × Fine (map_source t)
+      → (xs : List X) × (items ≡ map h xs) × ((more : List X) → Left (map_source t) more → Left (map_source s) (xs ++ more)) × Fine (map_source t)
   through [] s t y c fine = ([], refl, (λ more l. subst (λ u. Left (map_source u) more) (sym y) l), subst (λ u. Fine (map_source u)) y fine)
   through (r ∷ items) s t y c fine =
       let x = y.1.0 in
@@ -108,7 +96,7 @@ module _ {S A F X : Type 0} {steps : S → Option A → S → Type 0} {v : A →
   pub gathered : (s : Map S F) (r : Result (Vec ℕ Global) ParseError) → map_callee s ≡ f → Fine (map_source s)
       → IfOk r (TryCollects (map_steps steps g) (λ x y. y ≡ x) (λ ys w. (vec_items w ≡ ys) × (vec_len w ≡ length ys)) Extends s)
       → IfErr r (λ e. ((full : AllocError) × (e ≡ OutOfMemory full)) ⊎ SomeRun (map_steps steps g) s (λ p. EndsAtFirstErr p (λ x y. y ≡ x) e))
-      → IfMemorySuffices r (λ found. (xs : List X) × Left (map_source s) xs × (result_map_both vec_items (λ fault. fault) found ≡ gathers h xs))
+      → IfMemorySuffices r (λ found. (xs : List X) × Left (map_source s) xs × (result_map_both vec_items Line found ≡ gathers h xs))
   gathered s (Ok w) c fine ok err =
       let vals = values vec_items Extends (λ _ _ _ e. e.0) ok.0 ok.1 w ok.4 in
       let run = ok.2.1 in
@@ -124,7 +112,7 @@ module _ {S A F X : Type 0} {steps : S → Option A → S → Type 0} {v : A →
       let i = run.2.0 in
       let seen = through p.items s (took p).0 (subst (λ k. Yields (map_steps steps g) k p.items (took p).0) run.1 (took p).1) c fine in
       let rest = source.left _ seen.3 in
-      let at : (k : ℕ) (P : Result ℕ ParseError → Type 0) → IsSomeAnd (p.at k) P → IsSomeAnd (slice_get (map (λ x. told (h x)) seen.0) k) P
+      let at : (k : ℕ) (P : Result ℕ ParseError → Type 0) → IsSomeAnd (p.at k) P → IsSomeAnd (slice_get (map h seen.0) k) P
       = λ k P. subst (λ o. IsSomeAnd o P) (at-is p k ∙ ap (λ xs. slice_get xs k) seen.1) in
-      (seen.0 ++ rest.0, seen.2 rest.0 rest.1, sym (first_fault h seen.0 rest.0 i fault (at i _ run.2.2) (λ k l. at k _ (run.2.3 k l)))))
+      (seen.0 ++ rest.0, seen.2 rest.0 rest.1, sym (first_err h seen.0 rest.0 i (Line fault) (at i _ run.2.2) (λ k l. at k _ (run.2.3 k l)))))
       err

@@ -1,10 +1,13 @@
 -- The words of a line, one after the other, and the numbers that they write.
 use Rattle.std.proofs.Common.{◌≡◌, ℕ, ◌^◌, ◌<◌, Bool, true, false, cond, ◌&&◌, ltb, List, [], ◌∷◌, length, get_or, drop, Some, None, Ok, Err, Option, Result, sym, refl, ap, ◌∙◌, ⊎_elim, rules}
 use Rattle.std.specs.Str.{all_ascii_digits}
-use Rattle.std.specs.Result.{OkIff, result_ok}
+use Rattle.std.specs.Result.{OkIff, result_ok, result_map_both}
 use Rattle.std.specs.Str.Parse.{ParsesUnsigned}
 use Rattle.std.specs.Option.{ok_or}
+use Rattle.command.specs.declared.kinds.LineFault.{LineFault}
 use Rattle.command.specs.declared.kinds.LineFault.TheVariants.{NoNumber}
+use Rattle.command.specs.declared.kinds.ParseError.{ParseError}
+use Rattle.command.specs.declared.kinds.ParseError.TheVariants.{Line}
 use Rattle.std.proofs.lemmas.Str.Parse.{IsNumeralModel, numerals_by_fold, parse_plain, parse_plus}
 use Rattle.std.proofs.lemmas.Bool.{cases_eq, cond-true, cond-false, and_from, and_parts, lt-ltb, ltb-true, eq-eqb, ne_eqb}
 use Rattle.command.proofs.Gathering.{gathers, joined}
@@ -32,20 +35,27 @@ number_read w r h = ⊎_elim
     (λ n. digits_read w r (parse_plain own 32 w r h n) ∙ ap (λ i. fitting 32 (drop i w)) (sym (cond-false _ 1 0 (ne_eqb _ 43 n))))
     (cases_eq (get_or w 0 0) 43)
 
-joined-numerals : (x : Option ℕ) (xs : Option (List ℕ)) → joined (ok_or x NoNumber) (ok_or xs NoNumber) ≡ ok_or (before x xs) NoNumber
+-- an error that is a line's fault
+abbrev lined : {T : Type 0} → Result T LineFault → Result T ParseError
+lined r = result_map_both (λ x. x) Line r
+
+joined-numerals : (x : Option ℕ) (xs : Option (List ℕ)) → joined (ok_or x (Line NoNumber)) (lined (ok_or xs NoNumber)) ≡ lined (ok_or (before x xs) NoNumber)
 joined-numerals None xs = refl
 joined-numerals (Some x) None = refl
 joined-numerals (Some x) (Some xs) = refl
 
-pub gathers-numerals : (ws : List (List ℕ)) → gathers (λ w. ok_or (numeral 32 w) NoNumber) ws ≡ ok_or (numerals 32 ws) NoNumber
+pub gathers-numerals : (ws : List (List ℕ)) → gathers (λ w. ok_or (numeral 32 w) (Line NoNumber)) ws ≡ lined (ok_or (numerals 32 ws) NoNumber)
 gathers-numerals [] = refl
-gathers-numerals (w ∷ ws) = ap (joined (ok_or (numeral 32 w) NoNumber)) (gathers-numerals ws) ∙ joined-numerals (numeral 32 w) (numerals 32 ws)
+gathers-numerals (w ∷ ws) =
+    ap (joined (ok_or (numeral 32 w) (Line NoNumber))) (gathers-numerals ws) ∙ joined-numerals (numeral 32 w) (numerals 32 ws)
 
-joined-narrow : (b c : Bool) (x : ℕ) (xs : List ℕ) → joined (cond b (Ok x) (Err NoNumber)) (cond c (Ok xs) (Err NoNumber)) ≡ cond (b && c) (Ok (x ∷ xs)) (Err NoNumber)
+joined-narrow : (b c : Bool) (x : ℕ) (xs : List ℕ)
+    → joined (cond b (Ok x) (Err (Line NoNumber))) (lined (cond c (Ok xs) (Err NoNumber))) ≡ lined (cond (b && c) (Ok (x ∷ xs)) (Err NoNumber))
 joined-narrow true true x xs = refl
 joined-narrow true false x xs = refl
 joined-narrow false c x xs = refl
 
-pub gathers-narrow : (xs : List ℕ) → gathers (λ x. cond (narrow x) (Ok x) (Err NoNumber)) xs ≡ cond (all_narrow xs) (Ok xs) (Err NoNumber)
+pub gathers-narrow : (xs : List ℕ) → gathers (λ x. cond (narrow x) (Ok x) (Err (Line NoNumber))) xs ≡ lined (cond (all_narrow xs) (Ok xs) (Err NoNumber))
 gathers-narrow [] = refl
-gathers-narrow (x ∷ xs) = ap (joined (cond (narrow x) (Ok x) (Err NoNumber))) (gathers-narrow xs) ∙ joined-narrow (narrow x) (all_narrow xs) x xs
+gathers-narrow (x ∷ xs) =
+    ap (joined (cond (narrow x) (Ok x) (Err (Line NoNumber)))) (gathers-narrow xs) ∙ joined-narrow (narrow x) (all_narrow xs) x xs
