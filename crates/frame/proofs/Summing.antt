@@ -1,7 +1,15 @@
 -- A code as a sum over the variables of a mask.
-use Rattle.std.proofs.Common.{◌≡◌, ℕ, zero, suc, ◌+◌, ◌*◌, ◌<◌, ◌≤◌, Bool, true, false, cond, List, [], ◌∷◌, ◌++◌, refl, sym, ap, ◌∙◌, arith}
+use Rattle.std.proofs.Common.{◌≡◌, ℕ, zero, suc, ◌+◌, ◌*◌, ◌<◌, ◌≤◌, Bool, true, false, cond, List, [], ◌∷◌, ◌++◌, map, Bor, refl, sym, ap, ◌∙◌, arith}
 use mathlib.Core.List.{map-id}
+use Rattle.std.specs.Fn.{Called, CalledAt, Mut}
 use Rattle.std.specs.List.{filter, range_with_len, sum_by}
+use Rattle.std.specs.Iterator.Adapters.{filter_source, filter_callee, filter_steps, map_source, map_callee}
+use Rattle.std.specs.declared.iter.Filter.{Filter}
+use Rattle.std.specs.declared.iter.Map.{Map}
+use Rattle.std.specs.declared.ops.Range.{Range}
+use Rattle.std.proofs.iter.Yields.{nat_range_steps}
+use Rattle.std.proofs.lemmas.Iterator.{YieldsList, YieldsList-from_map, YieldsList-from_range, maps}
+use Rattle.std.proofs.lemmas.Iterator.Consumers.{YieldsList-at, YieldsList-from_filter}
 use Rattle.std.proofs.lemmas.Nat.{mul-le}
 use Rattle.std.proofs.lemmas.List.FromFn.{filter_of_map_range_with_len_more}
 use Rattle.std.proofs.lemmas.List.Sums.{sum_by-append, sum_by-cons}
@@ -40,3 +48,11 @@ module _ (size : ℕ → ℕ) (mask : ℕ) (p : Position) where
   pub code_small : (n : ℕ) → ((v : ℕ) → p v ≤ 65535) → ((v : ℕ) → v < n → width_by size mask v ≤ 16384) → code_by size mask p n ≤ n * 1073741824
   code_small zero h w = omega arith
   code_small (suc n) h w = omega (arith, code_small n h (λ v l. w v (omega arith)), digit (has mask n) (p n * width_by size mask n) (omega (arith, mul-le (p n) (width_by size mask n) 65535 16384 (h n) (w n (omega arith)))))
+
+-- what a chain over the variables below n yields, that keeps those of a mask and then gives h of each
+pub yields_those : {G F : Type 0} {test : Mut G (Bor ℕ × Unit {0}) Bool} {g : Mut F (ℕ × Unit {0}) ℕ} {k : G} {f : F} {fs : Filter (Range ℕ) G} {ms : Map (Filter (Range ℕ) G) F} (mask n : ℕ) (h : ℕ → ℕ)
+    → filter_source fs ≡ record { start = 0; end = n } → filter_callee fs ≡ k → ((v : ℕ) (b : Bool) (q : G) → CalledAt test k v b q → (q ≡ k) × (b ≡ has mask v))
+    → map_source ms ≡ fs → map_callee ms ≡ f → ((v r : ℕ) (q : F) → Called g f (v, tt) r q → (q ≡ f) × (r ≡ h v))
+    → YieldsList (maps (filter_steps nat_range_steps test) g) (λ x. x) ms (map h (those mask n))
+yields_those mask n h range callee keeps source maker gives =
+    YieldsList-from_map _ h (YieldsList-at source (YieldsList-from_filter _ (has mask) (YieldsList-at range (YieldsList-from_range 0 n n refl (omega arith))) callee keeps)) maker gives

@@ -1,12 +1,10 @@
-use Rattle.std.proofs.Common.{◌*◌, refl, rules, arith, ◌∙◌}
-use Rattle.std.proofs.lemmas.Iterator.{YieldsList-from_map, YieldsList-from_range}
-use Rattle.std.proofs.lemmas.Iterator.Consumers.{YieldsList-at, YieldsList-from_filter, sum_by_from_yields_List, fits_by_from_yields_list}
+use Rattle.std.proofs.Common.{◌*◌, rules, arith, ◌∙◌}
+use Rattle.std.proofs.lemmas.Iterator.Consumers.{sum_by_from_yields_List, fits_by_from_yields_list}
 use Rattle.model.specs.Tasks.{position}
-use Rattle.model.specs.LeaveOut.{has}
 use Rattle.model.specs.Frames.{width_by}
 use Rattle.frame.specs.Held.{size_in}
 use Rattle.frame.proofs.Framed.{code_fits}
-use Rattle.frame.proofs.Summing.{those, code_sum}
+use Rattle.frame.proofs.Summing.{those, code_sum, yields_those}
 use Rattle.frame.proofs.frame.Frame.code.Goals as goal
 
 pub sum-requires-clause-fits : goal.sum-requires-clause-fits
@@ -14,7 +12,7 @@ sum-requires-clause-fits c =
     let s = c.args.self.now in
     let p = position c.args.values.now in
     fits_by_from_yields_list (λ v. p v * width_by (size_in s.sizes) s.mask v) (those s.mask s.n) c.map.result _
-    (YieldsList-from_map _ (λ v. p v * width_by (size_in s.sizes) s.mask v) (YieldsList-at c.map.ensures.source (YieldsList-from_filter _ (has s.mask) (YieldsList-at c.filter.ensures.source (YieldsList-from_range 0 s.n s.n refl (omega arith))) c.filter.ensures.closure (λ v b q k. search rules))) c.map.ensures.closure (λ v d q k. search rules))
+    (yields_those s.mask s.n (λ v. p v * width_by (size_in s.sizes) s.mask v) c.filter.ensures.source c.filter.ensures.closure (λ v b q k. search rules) c.map.ensures.source c.map.ensures.closure (λ v d q k. search rules))
     (omega (arith, code_sum (size_in s.sizes) s.mask p s.n, code_fits s p (λ v. omega (arith, c.type_inv.values v))))
 
 pub returns : goal.returns
@@ -22,5 +20,5 @@ returns c =
     let s = c.args.self.now in
     let p = position c.args.values.now in
     sum_by_from_yields_List (λ v. p v * width_by (size_in s.sizes) s.mask v) (those s.mask s.n) c.map.result _ c.sum.ensures.ran
-    (YieldsList-from_map _ (λ v. p v * width_by (size_in s.sizes) s.mask v) (YieldsList-at c.map.ensures.source (YieldsList-from_filter _ (has s.mask) (YieldsList-at c.filter.ensures.source (YieldsList-from_range 0 s.n s.n refl (omega arith))) c.filter.ensures.closure (λ v b q k. search rules))) c.map.ensures.closure (λ v d q k. search rules))
+    (yields_those s.mask s.n (λ v. p v * width_by (size_in s.sizes) s.mask v) c.filter.ensures.source c.filter.ensures.closure (λ v b q k. search rules) c.map.ensures.source c.map.ensures.closure (λ v d q k. search rules))
     ∙ code_sum (size_in s.sizes) s.mask p s.n
