@@ -1,10 +1,11 @@
 // Cards with each fault at several places, and cards that are accepted.
+use crate::told::{number_and_place, refusal_of};
 use card::Card;
 use layout::fault::CardFault;
 use std::alloc::{AllocError, Global};
 use std::process::Abort;
 use std::test::Fail;
-use task::refusal::{Fault, Layer};
+use task::refusal::Layer;
 use task::source::TaskSource;
 
 // Two variables of 2 and 3 values, three operators and nine records.
@@ -47,9 +48,9 @@ const CHANGED: [(usize, u16, usize, u16, u16, usize); 30] = [
     (29, 4, 41, 9, 9, 29),
 ];
 
-fn fault_of(words: &[u16]) -> Option<CardFault> {
+fn read(words: &[u16]) -> Result<(), CardFault> {
     let mut card = Card::new();
-    card.read(words).err()
+    card.read(words)
 }
 
 #[test]
@@ -59,7 +60,7 @@ fn each_fault_has_its_number_and_place(rt: HostRuntime) -> Result<(), Fail> {
         assert!(rt; i < words.len() && j < words.len());
         words[i] = x;
         words[j] = y;
-        let refusal = fault_of(words.as_slice()).ok_or("accepted")?.refusal();
+        let refusal = refusal_of(read(words.as_slice()))?;
         assert_eq!(rt;
             (refusal.number, refusal.place.0, refusal.place.1),
             (number, place, 0)
@@ -79,8 +80,7 @@ fn other_lengths_are_declined(rt: HostRuntime) -> Result<(), Fail> {
             .take(count)
             .copied()
             .collect::<Vec<u16>>(rt.alloc())?;
-        let refusal = fault_of(given.as_slice()).ok_or("accepted")?.refusal();
-        assert_eq!(rt; (refusal.number, refusal.place.0), (number, count));
+        assert_eq!(rt; number_and_place(read(given.as_slice()))?, (number, count));
     }
     Ok(())
 }

@@ -1,16 +1,11 @@
 // Frames, codes and steps.
+use crate::told::refusal_of;
 use card::Card;
-use frame::fault::FrameFault;
 use frame::frame::Frame;
 use ring::Ring;
 use std::test::Fail;
-use task::refusal::{Fault, Layer};
+use task::refusal::Layer;
 use task::source::TaskSource;
-
-fn number_and_place(fault: FrameFault) -> (u16, usize) {
-    let refusal = fault.refusal();
-    (refusal.number, refusal.place.0)
-}
 
 #[test]
 fn codes_of_the_largest_frame_come_back(rt: HostRuntime) {
@@ -34,9 +29,9 @@ fn what_is_no_frame_leaves_it_as_it_was(rt: HostRuntime) -> Result<(), Fail> {
     let mut frame = Frame::least();
     assert!(rt; frame.set(&card, 6).is_ok());
     for (mask, number, place) in [(0, 10, 32), (8, 10, 3), (24, 10, 3), (7, 11, 2)] {
-        let fault = frame.set(&card, mask).err().ok_or("accepted")?;
-        assert_eq!(rt; number_and_place(fault), (number, place));
-        assert!(rt; fault.refusal().layer == Layer::Frame);
+        let refusal = refusal_of(frame.set(&card, mask))?;
+        assert_eq!(rt; (refusal.number, refusal.place.0), (number, place));
+        assert!(rt; refusal.layer == Layer::Frame);
         assert_eq!(rt; (frame.mask(), frame.size()), (6, 320));
     }
     Ok(())

@@ -13,3 +13,5 @@ mod piles;
 mod plans;
 #[cfg(test)]
 mod rings;
+#[cfg(test)]
+mod told;

@@ -1,5 +1,6 @@
 // Numbers of frames.
 use numbers::number::{all_variables, frame_after, frame_count, frame_of, number_of};
+use std::test::Fail;
 use task::mask::contains;
 
 #[test]
@@ -24,39 +25,27 @@ fn frames_come_in_the_order_of_their_lists(rt: HostRuntime) {
 }
 
 fn members(f: u32) -> usize {
-    let mut found = 0_usize;
-    for v in 0..6 {
-        if contains(f, v) {
-            found = found.saturating_add(1);
-        }
-    }
-    found
+    (0..6).filter(|v| contains(f, *v)).count()
 }
 
 // Of two sets of one size, that with the lowest variable that only one of them has comes first.
 fn comes_before(g: u32, f: u32) -> bool {
-    for v in 0..6 {
-        if contains(g, v) != contains(f, v) {
-            return contains(g, v);
-        }
-    }
-    false
+    (0..6)
+        .find(|v| contains(g, *v) != contains(f, *v))
+        .is_some_and(|v| contains(g, v))
 }
 
 #[test]
-fn a_number_tells_how_many_frames_come_before(rt: HostRuntime) {
+fn a_number_tells_how_many_frames_come_before(rt: HostRuntime) -> Result<(), Fail> {
     for all in [1, 3, 7, 15, 31, 63] {
         for f in 1..all + 1 {
-            let mut number = 0_u32;
-            for g in 1..all + 1 {
-                if members(g) == members(f) && comes_before(g, f) {
-                    number = number.saturating_add(1);
-                }
-            }
+            let before = (1..all + 1).filter(|g| members(*g) == members(f) && comes_before(*g, f));
+            let number = u32::try_from(before.count())?;
             assert_eq!(rt; number_of(all, f), Some(number));
             assert_eq!(rt; frame_of(all, members(f), number), Some(f));
         }
     }
+    Ok(())
 }
 
 #[test]
@@ -87,16 +76,13 @@ fn all_variables_are_32_at_most(rt: HostRuntime) {
 }
 
 #[test]
-fn frames_are_counted(rt: HostRuntime) {
+fn frames_are_counted(rt: HostRuntime) -> Result<(), Fail> {
     for all in [1, 3, 7, 15, 31, 63] {
         for f in 1..all + 1 {
-            let mut count = 0_u32;
-            for g in 1..all + 1 {
-                if members(g) == members(f) {
-                    count = count.saturating_add(1);
-                }
-            }
+            let alike = (1..all + 1).filter(|g| members(*g) == members(f));
+            let count = u32::try_from(alike.count())?;
             assert_eq!(rt; frame_count(all, members(f)), count);
         }
     }
+    Ok(())
 }

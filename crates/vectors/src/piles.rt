@@ -1,5 +1,6 @@
 // Leave-outs, joins and piles over the first card.
 use crate::cards::WORDS;
+use crate::told::number_and_place;
 use card::Card;
 use join::{Join, Pair};
 use leave_out::{Keep, LeaveOut};
@@ -11,7 +12,6 @@ use stack::Stack;
 use stack::layer::Layer;
 use std::process::Abort;
 use std::test::Fail;
-use task::refusal::Fault;
 use task::source::TaskSource;
 
 fn first_card() -> Card<&'static [u16]> {
@@ -69,11 +69,6 @@ fn a_leave_out_keeps_its_variables_alone(rt: HostRuntime) {
         (top.image(1, 2), top.image(0, 1), top.image(0, 2)),
         (Some(0), Some(1), None)
     );
-}
-
-fn number_and_place(answer: Result<(), ReductionFault>) -> Result<(u16, usize), Fail> {
-    let refusal = answer.err().ok_or("accepted")?.refusal();
-    Ok((refusal.number, refusal.place.0))
 }
 
 #[test]

@@ -1,7 +1,8 @@
 // Rings of each size, and what is none.
+use crate::told::refusal_of;
 use ring::Ring;
 use std::test::Fail;
-use task::refusal::{Fault, Layer};
+use task::refusal::Layer;
 use task::source::TaskSource;
 
 #[test]
@@ -32,7 +33,7 @@ fn other_sizes_are_declined(rt: HostRuntime) -> Result<(), Fail> {
     for n in [0, 33, 65_535] {
         let mut ring = Ring::new();
         assert!(rt; ring.set(5).is_ok());
-        let refusal = ring.set(n).err().ok_or("accepted")?.refusal();
+        let refusal = refusal_of(ring.set(n))?;
         assert_eq!(rt;
             (refusal.number, refusal.place.0, refusal.place.1),
             (20, n, 0)
