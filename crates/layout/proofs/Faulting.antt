@@ -53,15 +53,15 @@ pub none_yet : (ws : List ℕ) → NoneBelow ws 1
 none_yet ws e h w = omega (arith, up_to_nine e)
 
 module _ (ws : List ℕ) (k : ℕ) (low : NoneBelow ws k) where
-  pub none_more : Least (λ i. CardWrong ws (fault k i)) None → NoneBelow ws (k + 1)
+  pub none_more : Tries ws (fault k) {A = Unit {0}} (Ok tt) → NoneBelow ws (k + 1)
   none_more none = firsts.none_more number place fault back (CardWrong ws) k low none
 
   -- the fault that a test answers is the first of all, where faults of its kind have the number k
-  pub first_tried : (e : CardFault) → ((i : ℕ) × (e ≡ fault k i) × Least (λ j. CardWrong ws (fault k j)) (Some i)) → ((i : ℕ) → (number (fault k i) ≡ k) × (place (fault k i) ≡ i)) → First card_turn (CardWrong ws) e
+  pub first_tried : (e : CardFault) → Tries ws (fault k) {A = Unit {0}} (Err e) → ((i : ℕ) → (number (fault k i) ≡ k) × (place (fault k i) ≡ i)) → First card_turn (CardWrong ws) e
   first_tried e h at = subst (λ d. First card_turn (CardWrong ws) d) (sym h.1) (firsts.first_at number place fault back (CardWrong ws) k h.0 low h.2 (at h.0).0 (at h.0).1)
 
   -- and where that answer is handed on
-  pub declined : (r : Result (Unit {0}) CardFault) (e : CardFault) → IsErrAnd r (λ d. d ≡ e) → ((i : ℕ) × (e ≡ fault k i) × Least (λ j. CardWrong ws (fault k j)) (Some i)) → ((i : ℕ) → (number (fault k i) ≡ k) × (place (fault k i) ≡ i)) → Reads ws r
+  pub declined : (r : Result (Unit {0}) CardFault) (e : CardFault) → IsErrAnd r (λ d. d ≡ e) → Tries ws (fault k) {A = Unit {0}} (Err e) → ((i : ℕ) → (number (fault k i) ≡ k) × (place (fault k i) ≡ i)) → Reads ws r
   declined (Ok _) e is h at = absurd is
   declined (Err d) e is h at = subst (λ x. First card_turn (CardWrong ws) x) (sym is) (first_tried e h at)
 

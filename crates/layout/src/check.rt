@@ -50,6 +50,7 @@ fn check_counts(words: &[u16]) -> Result<(), CardFault>
     Ok(())
 }
 
+// Whether a variable may have so many values.
 fn is_size(size: u16) -> bool
     ensures { Decides result ((1 ≤ size) × (size ≤ 64)) }
 {
