@@ -77,7 +77,7 @@ impl<W: AsSlice<u16>> Card<W> {
 impl<W: AsSlice<u16>> TaskSource for Card<W> {
     ghost task = { λ s. card (W.items s.words) };
 
-    ghost lawful = { λ s. card_lawful (W.items s.words) s.is_card.counts s.is_card.sizes s.is_card.starts s.is_card.heads s.is_card.nexts s.is_card.records };
+    ghost lawful = { λ s. let c = s.is_card in card_lawful (W.items s.words) c.counts c.sizes c.starts c.heads c.nexts c.records };
 
     fn variables(&self) -> usize {
         variables(self.words.as_slice())
