@@ -1,9 +1,10 @@
 -- What the test of a claim's set goes by, code by code.
 use Rattle.std.specs.Prelude.{◌≡◌, ℕ, ◌<◌, Bool, List}
 use Rattle.model.specs.Tasks.{Task, IsGoal}
-use Rattle.model.specs.Frames.{onto, values_by, values}
+use Rattle.model.specs.Frames.{onto, values}
 use Rattle.frame.specs.declared.frame.Frame.{Frame}
 use Rattle.frame.specs.Held.{size_in}
+use Rattle.frame.specs.Codes.{values_of}
 use Rattle.shelves.specs.Shelves as shelves
 use Rattle.records.specs.declared.shelf.Shelf.{Shelf}
 use Rattle.records.specs.Records.{covered_in, Framed}
@@ -12,7 +13,7 @@ use Rattle.checks.specs.Wrong.{Open, Leaves}
 
 -- the code stands for a position on a shelf whose frame lies strictly inside the claim's
 abbrev pub code_covered : Claim → ℕ → Bool
-code_covered q c = covered_in q.shelves.pool.now q.shelves.records.now q.frame.now.mask (values_by (size_in q.frame.now.sizes) q.frame.now.mask c)
+code_covered q c = covered_in q.shelves.pool.now q.shelves.records.now q.frame.now.mask (values_of q.frame.now c)
 
 -- the frame and the shelves' frames are frames of the task
 abbrev pub Fits : Task → Frame → List Shelf → Type 0

@@ -1,8 +1,9 @@
 // The code of a position in a frame, and the values that a code stands for.
 ghost use Rattle.std.specs.Prelude.{◌≡◌, ◌*◌, ◌<◌};
 ghost use Rattle.model.specs.Tasks.{position};
-ghost use Rattle.model.specs.Frames.{width_by, code_by, values_by};
+ghost use Rattle.model.specs.Frames.{width_by};
 ghost use Rattle.frame.specs.Held.{size_in};
+ghost use Rattle.frame.specs.Codes.{values_of, code_of};
 
 use crate::frame::Frame;
 use std::array;
@@ -32,7 +33,7 @@ impl Frame {
 
     // The sum of what each of the frame's variables adds.
     pub fn code(&self, values: &[u16]) -> usize
-        ensures { result ≡ code_by (size_in self.now.sizes) self.now.mask (position values.now) self.now.n }
+        ensures { result ≡ code_of self.now (position values.now) }
     {
         (0..self.n)
             .filter(|v| contains(self.mask, *v))
@@ -51,7 +52,7 @@ impl Frame {
     // The value of the variable v in a code, and 0 of a variable that is not in the frame.
     #[tactic(auto, using(crate::proofs::Framed::stride_some, crate::proofs::Framed::in_frame, crate::proofs::Framed::value_in))]
     pub fn value(&self, code: usize, v: usize) -> u16
-        ensures { result ≡ values_by (size_in self.now.sizes) self.now.mask code v }
+        ensures { result ≡ values_of self.now code v }
     {
         if contains(self.mask, v) {
             (code / self.strides[v] as usize % self.sizes[v] as usize) as u16
@@ -62,14 +63,14 @@ impl Frame {
 
     // The position that a code stands for.
     pub fn values(&self, code: usize) -> [u16; 32]
-        ensures { position result ≡ values_by (size_in self.now.sizes) self.now.mask code }
+        ensures { position result ≡ values_of self.now code }
     {
         array::from_fn(|v| self.value(code, v))
     }
 
     // The code, in a frame that lies inside, of the values that a code of this frame stands for.
     pub fn code_inside(&self, inner: &Frame, code: usize) -> usize
-        ensures { result ≡ code_by (size_in inner.now.sizes) inner.now.mask (values_by (size_in self.now.sizes) self.now.mask code) inner.now.n }
+        ensures { result ≡ code_of inner.now (values_of self.now code) }
     {
         inner.code(&self.values(code))
     }

@@ -2,8 +2,9 @@
 ghost use Rattle.std.specs.Prelude.{◌≡◌, if◌then◌else◌, None, Decides};
 ghost use Rattle.model.specs.Tasks.{Applies, Holds, after};
 ghost use Rattle.model.specs.LeaveOut.{has};
-ghost use Rattle.model.specs.Frames.{onto, code_by, values_by};
+ghost use Rattle.model.specs.Frames.{onto};
 ghost use Rattle.frame.specs.Held.{size_in};
+ghost use Rattle.frame.specs.Codes.{values_of, code_of};
 ghost use Rattle.frame.specs.Steps.{LeadsTo};
 
 use crate::frame::Frame;
@@ -14,21 +15,21 @@ use task::source::TaskSource;
 impl Frame {
     // Whether the value of v that is wanted at the code c is there, if v is in the frame and one is wanted.
     pub(crate) fn holds(&self, c: usize, v: usize, wanted: Option<u16>) -> bool
-        ensures { Decides result (Holds (if has self.now.mask v then wanted else None) (values_by (size_in self.now.sizes) self.now.mask c v)) }
+        ensures { Decides result (Holds (if has self.now.mask v then wanted else None) (values_of self.now c v)) }
     {
         kept(self.mask, v, wanted).is_none_or(|x| self.value(c, v) == x)
     }
 
     // Whether the operator o applies at the code c.
     pub fn applies<S: TaskSource>(&self, source: &S, o: usize, c: usize) -> bool
-        ensures { Decides result (Applies (onto self.now.mask (S.TaskSource.task source.now)) o (values_by (size_in self.now.sizes) self.now.mask c)) }
+        ensures { Decides result (Applies (onto self.now.mask (S.TaskSource.task source.now)) o (values_of self.now c)) }
     {
         (0..self.n).all(|v| self.holds(c, v, source.needed(o, v)))
     }
 
     // The code of what the operator o makes of the code c.
     fn made<S: TaskSource>(&self, source: &S, o: usize, c: usize) -> usize
-        ensures { result ≡ code_by (size_in self.now.sizes) self.now.mask (after (onto self.now.mask (S.TaskSource.task source.now)) o (values_by (size_in self.now.sizes) self.now.mask c)) self.now.n }
+        ensures { result ≡ code_of self.now (after (onto self.now.mask (S.TaskSource.task source.now)) o (values_of self.now c)) }
     {
         let values: [u16; 32] = array::from_fn(|v| {
             kept(self.mask, v, source.made(o, v)).unwrap_or(self.value(c, v))

@@ -2,8 +2,9 @@
 use Rattle.std.specs.Prelude.{◌≡◌, ℕ, Bool, false, ◌&&◌, ◌||◌, List, [], ◌∷◌, map, take, drop}
 use Rattle.std.specs.List.{AllByRecursion}
 use Rattle.model.specs.Tasks.{Position}
-use Rattle.model.specs.Frames.{strictly_inside, code_by}
+use Rattle.model.specs.Frames.{strictly_inside}
 use Rattle.frame.specs.Held.{size_in}
+use Rattle.frame.specs.Codes.{code_of}
 use Rattle.shelves.specs.Shelves as shelves
 use Rattle.shelves.specs.Shelves.{bit_of, bytes_for}
 use Rattle.records.specs.declared.shelf.Shelf.{Shelf}
@@ -24,7 +25,7 @@ shelves_of pool rs = map (shelf_of pool) rs
 
 -- the position is on the shelf, by the sizes of the shelf's own frame
 abbrev pub on : List ℕ → Shelf → Position → Bool
-on pool r p = bit_of (bytes_of pool r) (code_by (size_in r.frame.sizes) r.frame.mask p r.frame.n)
+on pool r p = bit_of (bytes_of pool r) (code_of r.frame p)
 
 -- the position is on a shelf whose frame lies strictly inside f
 abbrev pub covered_in : List ℕ → List Shelf → ℕ → Position → Bool
