@@ -5,7 +5,13 @@ use Rattle.model.specs.Tasks.{Task, Lawful, Alike}
 use Rattle.model.proofs.Positions.{start_outside}
 
 pub same_task : (t u : Task)
-    → (t.n ≡ u.n) × (t.m ≡ u.m) × ((v : ℕ) → t.size v ≡ u.size v) × ((o v : ℕ) → t.needed o v ≡ u.needed o v) × ((o v : ℕ) → t.made o v ≡ u.made o v) × ((v : ℕ) → t.start v ≡ u.start v) × ((v : ℕ) → t.goal v ≡ u.goal v)
+    → (t.n ≡ u.n)
+    × (t.m ≡ u.m)
+    × ((v : ℕ) → t.size v ≡ u.size v)
+    × ((o v : ℕ) → t.needed o v ≡ u.needed o v)
+    × ((o v : ℕ) → t.made o v ≡ u.made o v)
+    × ((v : ℕ) → t.start v ≡ u.start v)
+    × ((v : ℕ) → t.goal v ≡ u.goal v)
     → t ≡ u
 same_task t u (n, m, size, needed, made, start, goal) = λ i. record {
   n = n i;

@@ -32,7 +32,8 @@ in_even x [] = grind arith
 in_even x (y ∷ a) = grind (arith, in_even x a)
 
 -- a set with the lowest variable, where that is a candidate, or one without
-in_half : (c n k x : ℕ) → In x (pick c (suc n) (suc k)) ↔ (((c % 2 ≡ 1) × (x % 2 ≡ 1) × In (x / 2) (pick (c / 2) n k)) ⊎ ((x % 2 ≡ 0) × In (x / 2) (pick (c / 2) n (suc k))))
+in_half : (c n k x : ℕ) → In x (pick c (suc n) (suc k))
+    ↔ (((c % 2 ≡ 1) × (x % 2 ≡ 1) × In (x / 2) (pick (c / 2) n k)) ⊎ ((x % 2 ≡ 0) × In (x / 2) (pick (c / 2) n (suc k))))
 in_half c n k x = grind (
   arith,
   nat_tests,
@@ -59,7 +60,8 @@ candidates_half c f = (
 in_pick : (c n k f : ℕ) → In f (pick c n k) ↔ ((f < 2 ^ n) × (ones f ≡ k) × Candidates c f)
 in_pick c n zero f = (λ h. grind (arith, ones-le 0 0, has_none, pow_pos n), λ h. inl (zero_from_ones f h.1))
 in_pick c zero (suc k) f = grind (arith, ones-le 0 f)
-in_pick c (suc n) (suc k) f = grind (arith, in_half c n k f, in_pick (c / 2) n k (f / 2), in_pick (c / 2) n (suc k) (f / 2), ones_step f, candidates_half c f)
+in_pick c (suc n) (suc k) f =
+    grind (arith, in_half c n k f, in_pick (c / 2) n k (f / 2), in_pick (c / 2) n (suc k) (f / 2), ones_step f, candidates_half c f)
 
 pub picked : (c n k f : ℕ) → In f (pick c n k) → (f < 2 ^ n) × (ones f ≡ k) × ((v : ℕ) → has f v ≡ true → has c v ≡ true)
 picked c n k f = (in_pick c n k f).0
@@ -91,7 +93,8 @@ zero_first xs (y ∷ ys) h = inl (omega arith)
 
 -- a set with the lowest variable is earlier than one without
 odd_first : (n f g : ℕ) → f % 2 ≡ 1 → g % 2 ≡ 0 → g / 2 < 2 ^ n → 0 < ones (g / 2) → Earlier (members (suc n) f) (members (suc n) g)
-odd_first n f g odd even small some = grind (arith, nat_tests, members_length n (g / 2), zero_first (map suc (members n (f / 2))) (members n (g / 2)))
+odd_first n f g odd even small some =
+    grind (arith, nat_tests, members_length n (g / 2), zero_first (map suc (members n (f / 2))) (members n (g / 2)))
 
 module _ (m n : ℕ) (d : ℕ → ℕ) (keep : (f g : ℕ) → Earlier (members n f) (members n g) → Earlier (members m (d f)) (members m (d g))) where
   all_map : (f : ℕ) (fs : List ℕ) → AllByRecursion (λ g. Earlier (members n f) (members n g)) fs → AllByRecursion (λ g. Earlier (members m (d f)) (members m g)) (map d fs)
@@ -122,7 +125,8 @@ pick_in_order c (suc n) (suc k) =
     order_append (suc n) (cond (eqb (c % 2) 1) odd []) (map (λ f. 2 * f) (pick (c / 2) n (suc k)))
     (order_cond (suc n) (eqb (c % 2) 1) odd (order_map (suc n) n (λ f. 2 * f + 1) (odd_earlier n) (pick (c / 2) n k) (pick_in_order (c / 2) n k)))
     (order_map (suc n) n (λ f. 2 * f) (even_earlier n) (pick (c / 2) n (suc k)) (pick_in_order (c / 2) n (suc k)))
-    (λ x y i j. grind (arith, odd_first n x y, in_odd x (pick (c / 2) n k), in_even y (pick (c / 2) n (suc k)), in_pick (c / 2) n (suc k) (y / 2)))
+    (λ x y i j.
+    grind (arith, odd_first n x y, in_odd x (pick (c / 2) n k), in_even y (pick (c / 2) n (suc k)), in_pick (c / 2) n (suc k) (y / 2)))
 
 -- ---- the lowest n variables as candidates
 

@@ -22,7 +22,8 @@ code_kept t f p = code_below_kept t f p t.n
 
 code_below_below : (t : Task) (f : ℕ) (p : Position) → Legal (onto f t) p → (v : ℕ) → code_below t f p v < width t f v
 code_below_below t f p h zero = omega arith
-code_below_below t f p h (suc v) = grind (arith, code_below_below t f p h v, h v, mul-add-lt (p v) (width t f v) (code_below t f p v) (t.size v))
+code_below_below t f p h (suc v) =
+    grind (arith, code_below_below t f p h v, h v, mul-add-lt (p v) (width t f v) (code_below t f p v) (t.size v))
 
 pub code_below_size : (t : Task) (f : ℕ) (p : Position) → Legal (onto f t) p → code t f p < frame_size t f
 code_below_size t f p h = code_below_below t f p h t.n

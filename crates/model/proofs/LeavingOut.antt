@@ -18,7 +18,8 @@ module _ (mask : ℕ) (t : Task) where
 
 -- a mask that has each of the task's variables leaves nothing out
 pub leave_out_all : (mask : ℕ) (t : Task) → Lawful t → ((v : ℕ) → v < t.n → has mask v ≡ true) → leave_out mask t ≡ t
-leave_out_all mask t law all = same_task (leave_out mask t) t (grind (arith, all, law.outside, law.no_needs, law.no_makes, start_outside t law, law.no_goals))
+leave_out_all mask t law all =
+    same_task (leave_out mask t) t (grind (arith, all, law.outside, law.no_needs, law.no_makes, start_outside t law, law.no_goals))
 
 pub leave_out_nothing : (t : Task) → Lawful t → leave_out 4294967295 t ≡ t
 leave_out_nothing t law = leave_out_all 4294967295 t law (λ v l. eq-eqb _ _ (bit_at_ones 32 v (omega (arith, law.variables.1))))

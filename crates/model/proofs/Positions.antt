@@ -32,7 +32,8 @@ module _ (t : Task) (law : Lawful t) where
 
   -- a list that has each variable holds the position that the operator leads to
   pub advanced_position : (o : ℕ) (xs : List ℕ) → t.n ≤ length xs → position (advanced t o xs) ≡ after t o (position xs)
-  advanced_position o xs long = fun_ext (λ v. grind (arith, common_steps, law.no_makes o v, get_or-map-range_with_len, length-map-range_with_len))
+  advanced_position o xs long =
+      fun_ext (λ v. grind (arith, common_steps, law.no_makes o v, get_or-map-range_with_len, length-map-range_with_len))
 
 pub applies_needs : (t : Task) (o : ℕ) (p : Position) → Applies t o p → (v : ℕ) → Holds (t.needed o v) (p v)
 unfolding Applies
