@@ -35,22 +35,25 @@ impl<'a> Card<&'a [u16]> {
     }
 }
 
-impl<W: AsSlice<u16> + Drop> Card<W> {
-    // The words as a card, if nothing is wrong with them.
-    pub fn of(words: W) -> Result<Self, CardFault>
-        ensures reads { Reads (W.items words) result }
-        ensures held { IfOk result (λ card. card.words ≡ words) }
-    {
+// The words as a card, if nothing is wrong with them.
+impl<W: AsSlice<u16> + Drop> TryFrom<W> for Card<W> {
+    type Error = CardFault;
+
+    ghost try_from_gives = { λ words answer. Reads (W.items words) answer × IfOk answer (λ card. card.words ≡ words) };
+
+    fn try_from(words: W) -> Result<Self, CardFault> {
         check_words(words.as_slice())?;
         Ok(Card { words })
     }
+}
 
+impl<W: AsSlice<u16> + Drop> Card<W> {
     // Takes the words as this card, if nothing is wrong with them. Declined, it stays as it was.
     pub fn read(&mut self, words: W) -> Result<(), CardFault>
         ensures reads { Reads (W.items words) result }
         ensures held { MatchResult result (λ _. self.new.words ≡ words) (λ _. self.new ≡ self.old) }
     {
-        *self = Card::of(words)?;
+        *self = Card::try_from(words)?;
         Ok(())
     }
 }

@@ -107,7 +107,7 @@ impl Session {
         ensures becomes { Becomes self.old (card words.items) self.new }
         ensures counts { IfOk result (λ c. c ≡ (variables words.items, operators words.items)) }
     {
-        let card = OwnedCard::of(words)?;
+        let card = OwnedCard::try_from(words)?;
         let counts = (card.variables(), card.operators());
         self.pile = Some(Pile::Card(Stack::with_layers(card, Vec::new(self.heap))));
         Ok(counts)
