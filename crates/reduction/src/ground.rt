@@ -5,7 +5,7 @@ ghost use Rattle.model.proofs.Reducing.{reduces_self};
 use crate::interface::Reduction;
 use task::source::TaskSource;
 
-// Any source as the reduction of itself, which changes nothing.
+// Any source as the reduction of itself, which changes nothing. It is no `Over`, since that is a reduction only over a reduction.
 #[derive(Drop)]
 pub struct Ground<S> {
     source: S,
