@@ -62,10 +62,8 @@ fn wanted<R: Print, F: Fn(usize) -> Option<u16>>(rt: &R, n: usize, value: F) -> 
     if (0..n).all(|v| value(v).is_none()) {
         return print!(rt; " nothing");
     }
-    for v in 0..n {
-        if let Some(x) = value(v) {
-            print!(rt; " v{v}={x}")?;
-        }
+    for (v, x) in (0..n).filter_map(|v| Some((v, value(v)?))) {
+        print!(rt; " v{v}={x}")?;
     }
     Ok(())
 }
