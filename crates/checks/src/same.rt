@@ -9,7 +9,7 @@ use frame::measure::sizes_of;
 use task::moves::MAX_VARIABLES;
 use task::source::TaskSource;
 
-// How many variables a task has, and their sizes.
+// How many variables a task has, and their sizes: a list in fixed memory, as that of a frame.
 #[derive(Clone, Copy)]
 pub struct Variables {
     pub n: usize,

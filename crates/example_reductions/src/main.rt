@@ -1,4 +1,4 @@
-// Runs examples/reductions.txt.
+// Runs examples/reductions.txt: a program for each, since the gate runs a crate on one input.
 #![tactic(auto)]
 
 use script::run;

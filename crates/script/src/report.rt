@@ -8,6 +8,7 @@ use task::moves::{advance, missed_goal, size_or_one, start_position};
 use task::plan::follow;
 use task::source::TaskSource;
 
+// A match, not a call that is handed on: what a line asks is data until it is known over which pile.
 pub fn answer<R: Print, P: Reduction>(rt: &R, pile: &P, query: &Query) -> Result<(), Trouble> {
     match query {
         Query::Task => show(rt, pile)?,
@@ -32,6 +33,7 @@ fn show<R: Print, S: TaskSource>(rt: &R, source: &S) -> io::Result<()> {
     let n = source.variables();
     let m = source.operators();
     println!(rt; "task: {n} variables, {m} operators")?;
+    // Loops, not chains: each turn prints, and an error ends them.
     for v in 0..n {
         variable(rt, source, v)?;
     }

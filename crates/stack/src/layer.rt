@@ -16,6 +16,7 @@ pub enum Layer {
     Join(Pair),
 }
 
+// A match for each question: an enum of two kinds, so that a list of layers needs no box for each.
 impl Coarsening for Layer {
     ghost layers = { λ layer. layering layer ∷ [] };
 
