@@ -5,24 +5,23 @@ use Rattle.std.proofs.lemmas.List.{get_or_past}
 use Rattle.std.proofs.lemmas.List.FromFn.{length-map-range_with_len, get_or-map-range_with_len}
 use lib.Bits.{bit_or}
 use Rattle.std.specs.Int.{bit_at}
-use Rattle.std.proofs.lemmas.Bool.{both_ways, cases_lt, cases_eq, cases_Bool, le-ltb}
+use Rattle.std.proofs.lemmas.Bool.{cases_lt, cases_eq, cases_Bool, le-ltb}
 use Rattle.std.proofs.lemmas.Bool.Decides.{nat_tests}
 use Rattle.std.proofs.lemmas.Nat.Bits.{bit_at-zero, bit_at_or, bit_at-pow_same, bit_at-pow_other}
 use Rattle.model.specs.LeaveOut.{has}
 use Rattle.model.proofs.Masks.{has_none}
-use Rattle.model.proofs.Truths.{T_true, same_test}
 use Rattle.shelves.specs.Shelves.{bit_of, bytes_for}
 
 -- ---- no bit past the bytes
 
 no_bit : (i : ℕ) → has 0 i ≡ false
-no_bit i = same_test (has 0 i) false (λ b. has_none i (T_true (has 0 i) b)) (λ b. absurd b)
+no_bit i = grind (arith, has_none i)
 
 pub bit_past : (bytes : List ℕ) (c : ℕ) → 8 * length bytes ≤ c → bit_of bytes c ≡ false
 bit_past bytes c h = ap (λ (x : ℕ). has x (c % 8)) (get_or_past bytes (c / 8) 0 (omega arith)) ∙ no_bit (c % 8)
 
 pub bit_within : (bytes : List ℕ) (c : ℕ) → T (bit_of bytes c) → c < 8 * length bytes
-bit_within bytes c b = ⊎_elim (λ l. l) (λ l. absurd (both_ways (bit_of bytes c) (bit_past bytes c l) (T_true (bit_of bytes c) b))) (cases_lt c (8 * length bytes))
+bit_within bytes c b = grind (arith, bit_past bytes c)
 
 -- ---- one byte for eight codes
 
@@ -79,5 +78,5 @@ set_as_bytes set size fits = (bytes, long, λ c. ⊎_elim (λ l. within c l) (λ
     past : (c : ℕ) → n ≤ c / 8 → bit_of bytes c ≡ set c
     past c l =
         let big : size ≤ c = omega arith in
-        let out : set c ≡ false = same_test (set c) false (λ b. let z : c < size = fits c b in omega arith) (λ b. absurd b) in
+        let out : set c ≡ false = grind (arith, fits c) in
         bit_past bytes c (omega (arith, long)) ∙ sym out

@@ -1,12 +1,11 @@
 -- What surveys decide: after the survey of a frame, each position that is hopeless in the projection is on a shelf.
-use Rattle.std.proofs.Common.{ℕ, ◌≤◌, Bool, T, [], ◌∷◌, sym, refl, subst, inl, inr, ⊎_elim}
+use Rattle.std.proofs.Common.{ℕ, ◌≤◌, Bool, T, [], ◌∷◌, sym, refl, subst, inl, inr, ⊎_elim, arith}
 use lib.Count.{ones}
 use Rattle.std.proofs.lemmas.Bool.{cond-true}
 use Rattle.model.specs.Tasks.{Task, Position, Legal, Lawful, Hopeless}
 use Rattle.model.specs.Reductions.{image_of}
 use Rattle.model.specs.LeaveOut.{kept}
 use Rattle.model.specs.Frames.{In, onto, code, frame_size, IsFrame, choose}
-use Rattle.model.proofs.Truths.{T_true}
 use Rattle.model.proofs.Reducing.{plans_up}
 use Rattle.model.proofs.LeavingOut.{leave_out_lawful, leave_out_reduces}
 use Rattle.model.proofs.Insides.{leave_more_out}
@@ -29,7 +28,7 @@ module _ (t : Task) (law : Lawful t) where
   filed_held s f set p h b =
       let q : Position = image_of (kept f) p in
       let some : T (some_below (frame_size t f) set) = some_below_has (frame_size t f) set (code t f q) (code_below_size t f q ((leave_out_reduces f t).legal p h)) (subst (λ c. T (set c)) (sym (code_kept t f p)) b) in
-      subst (λ (x : State). T (held t x.shelves p)) (sym (cond-true (some_below (frame_size t f) set) (joins t s f set) s (T_true (some_below (frame_size t f) set) some)))
+      subst (λ (x : State). T (held t x.shelves p)) (sym (cond-true (some_below (frame_size t f) set) (joins t s f set) s (grind arith)))
       (held_at_held t p (joined s.shelves f set) (place s.shelves f) (joined_held t p s.shelves f set b))
 
   pub survey_holds : (s : State) (f : ℕ) (set : ℕ → Bool) → Surveyed t s.shelves f set → (p : Position) → Legal t p → Hopeless (onto f t) (image_of (kept f) p) → T (held t (filed t s f set).shelves p)

@@ -1,9 +1,9 @@
 -- A survey's rounds and a projection's best plan: there is one at most, and the rounds are below the frame's size.
 use Rattle.std.proofs.Common.{◌≡◌, ℕ, zero, suc, ◌<◌, ◌≤◌, true, false, eqb, List, [], ◌∷◌, length, sym, refl, ap, ◌∙◌, subst, ⊎_elim, arith}
-use Rattle.std.specs.List.{AllByRecursion as All, IsDistinct, list_any}
+use Rattle.std.specs.List.{All, IsDistinct, list_any}
 use Rattle.std.proofs.lemmas.Bool.{false≢true, eqb-true, ne_eqb, or_cases}
+use Rattle.std.proofs.lemmas.List.Elements.{All-nil, All-cons, All-head, All-tail, All-weaker, recursion_from_All}
 use Rattle.std.proofs.lemmas.Map.Steps.{length-le_from_distinct_below}
-use Rattle.std.proofs.ByRecursion.{All-weaker}
 use Rattle.model.specs.Tasks.{Task, Position, Legal, Lawful, after}
 use Rattle.model.specs.Frames.{onto, code, frame_size}
 use Rattle.model.proofs.Firsts.{neither_earlier}
@@ -62,21 +62,24 @@ module _ (t : Task) (law : Lawful t) (ss : List Shelf) (f : ℕ) where
 
   codes : (k : ℕ) (q : Position) → Fewest k q → (xs : List ℕ) × (length xs ≡ suc k) × All (Near k) xs × IsDistinct eqb xs
   unfolding IsDistinct
-  codes zero q h = (code t f q ∷ [], refl, ((0, q, omega arith, refl, h), tt), (tt, tt))
+  codes zero q h = (code t f q ∷ [], refl, All-cons (Near 0) (code t f q) [] (0, q, omega arith, refl, h) (All-nil (Near 0)), (tt, tt))
   codes (suc k) q h =
       let p = next k q h in
       let (xs, l, near, distinct) = codes k p.0 p.1 in (
         code t f q ∷ xs,
         ap suc l,
-        ((suc k, q, omega arith, refl, h), All-weaker (Near k) (Near (suc k)) (λ c x. (x.0, x.1, omega (arith, x.2), x.3, x.4)) xs near),
-        (All-weaker (Near k) (λ y. eqb (code t f q) y ≡ false) (λ c x. ne_eqb (code t f q) c (λ e. apart k x.0 q x.1 x.2 h x.4 (e ∙ sym x.3))) xs near, distinct),
+        All-cons (Near (suc k)) (code t f q) xs (suc k, q, omega arith, refl, h) (All-weaker (Near k) (Near (suc k)) (λ c x. (x.0, x.1, omega (arith, x.2), x.3, x.4)) xs near),
+        (recursion_from_All (λ y. eqb (code t f q) y ≡ false) xs (All-weaker (Near k) (λ y. eqb (code t f q) y ≡ false) (λ c x. ne_eqb (code t f q) c (λ e. apart k x.0 q x.1 x.2 h x.4 (e ∙ sym x.3))) xs near), distinct),
       )
 
+  -- each of them is below the frame's size
   near_below : (k : ℕ) (xs : List ℕ) → All (Near k) xs → (c : ℕ) → list_any (eqb c) xs ≡ true → c < frame_size t f
   near_below k [] near c h = absurd (false≢true h)
-  near_below k (x ∷ xs) near c h = ⊎_elim
-      (λ e. subst (λ (z : ℕ). z < frame_size t f) (near.0.3 ∙ sym (eqb-true c x e)) (code_below_size t f near.0.1 near.0.4.legal))
-      (λ later. near_below k xs near.1 c later)
+  near_below k (x ∷ xs) near c h =
+      let (j, q, l, e, fewest) = All-head (Near k) x xs near in
+      ⊎_elim
+      (λ same. subst (λ (z : ℕ). z < frame_size t f) (e ∙ sym (eqb-true c x same)) (code_below_size t f q fewest.legal))
+      (near_below k xs (All-tail (Near k) x xs near) c)
       (or_cases (eqb c x) (list_any (eqb c) xs) h)
 
   pub fewest_below : (k : ℕ) (q : Position) → Fewest k q → k < frame_size t f

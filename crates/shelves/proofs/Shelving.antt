@@ -1,30 +1,24 @@
 -- Which shelf a position is on, which shelf a frame has, and what holds of each.
-use Rattle.std.proofs.Common.{◌≡◌, ℕ, zero, suc, ◌<◌, Bool, true, false, cond, not, ◌&&◌, ◌||◌, T, eqb, List, [], ◌∷◌, length, Some, None, Option, sym, refl, ap, subst, ⊎_elim, arith, T_not}
+use Rattle.std.proofs.Common.{◌≡◌, ℕ, zero, suc, ◌<◌, not, T, List, [], ◌∷◌, length, Some, None, Option, refl, subst, ⊎_elim, arith, T_not}
 use lib.Dec.{eqb_refl}
-use Rattle.std.proofs.lemmas.Bool.{cases_eq, eq-eqb, ne_eqb}
 use Rattle.model.specs.Tasks.{Task, Position}
 use Rattle.model.specs.Reductions.{image_of}
 use Rattle.model.specs.LeaveOut.{kept}
-use Rattle.model.specs.Frames.{strictly_inside, code}
-use Rattle.model.proofs.Truths.{both_second, either, either_first, either_second}
-use Rattle.model.proofs.Insides.{inside_strictly, code_inside}
+use Rattle.model.specs.Frames.{code}
+use Rattle.model.proofs.Insides.{code_inside}
 use Rattle.shelves.specs.Shelves.{Shelf, held, held_at, covered, Earliest, has_shelf, place, Each}
-
-and_when : (a x y : Bool) → (T a → x ≡ y) → (a && x) ≡ (a && y)
-and_when true x y e = e tt
-and_when false x y e = refl
 
 -- ---- the shelf that a position is on
 
 module _ (t : Task) (p : Position) where
   pub held_at_held : (ss : List Shelf) (i : ℕ) → T (held_at t ss i p) → T (held t ss p)
   held_at_held [] i h = h
-  held_at_held (s ∷ ss) zero h = either_first (s.bits (code t s.frame p)) (held t ss p) h
-  held_at_held (s ∷ ss) (suc i) h = either_second (s.bits (code t s.frame p)) (held t ss p) (held_at_held ss i h)
+  held_at_held (s ∷ ss) zero h = grind arith
+  held_at_held (s ∷ ss) (suc i) h = grind (arith, held_at_held ss i)
 
   pub held_somewhere : (ss : List Shelf) → T (held t ss p) → (i : ℕ) × T (held_at t ss i p)
   held_somewhere [] h = absurd h
-  held_somewhere (s ∷ ss) h = ⊎_elim (λ a. (0, a)) (λ a. let (i, k) = held_somewhere ss a in (suc i, k)) (either (s.bits (code t s.frame p)) (held t ss p) h)
+  held_somewhere (s ∷ ss) h = ⊎_elim (λ a. (0, a)) (λ a. let (i, k) = held_somewhere ss a in (suc i, k)) (grind arith)
 
   pub held_at_below : (ss : List Shelf) (i : ℕ) → T (held_at t ss i p) → i < length ss
   held_at_below [] i h = absurd h
@@ -35,24 +29,16 @@ module _ (t : Task) (p : Position) where
   earliest_once ss None None x y = refl
   earliest_once ss None (Some j) x y = absurd (x (held_at_held ss j y.0))
   earliest_once ss (Some i) None x y = absurd (y (held_at_held ss i x.0))
-  earliest_once ss (Some i) (Some j) x y = let e : i ≡ j = omega (arith, x.1 j y.0, y.1 i x.0) in ap Some e
+  earliest_once ss (Some i) (Some j) x y = grind (arith, x.1 j, y.1 i)
 
   pub covered_held : (f : ℕ) (ss : List Shelf) → T (covered t ss f p) → T (held t ss p)
   covered_held f [] c = c
-  covered_held f (s ∷ ss) c =
-      let on = s.bits (code t s.frame p) in
-      ⊎_elim
-      (λ a. either_first on (held t ss p) (both_second (strictly_inside s.frame f) on a))
-      (λ a. either_second on (held t ss p) (covered_held f ss a))
-      (either (strictly_inside s.frame f && on) _ c)
+  covered_held f (s ∷ ss) c = grind (arith, covered_held f ss)
 
   -- a position is covered where its image in the projection is
   pub covered_kept : (f : ℕ) (ss : List Shelf) → covered t ss f (image_of (kept f) p) ≡ covered t ss f p
   covered_kept f [] = refl
-  covered_kept f (s ∷ ss) = λ j.
-      and_when (strictly_inside s.frame f) (s.bits (code t s.frame (image_of (kept f) p))) (s.bits (code t s.frame p))
-      (λ i. ap s.bits (code_inside t s.frame f (inside_strictly s.frame f i) p)) j
-      || covered_kept f ss j
+  covered_kept f (s ∷ ss) = grind (arith, code_inside t s.frame f, covered_kept f ss)
 
 -- ---- what holds of each shelf
 
@@ -66,19 +52,15 @@ each_both P Q (s ∷ ss) d e = ((d.0, e.0), each_both P Q ss d.1 e.1)
 
 pub each_held : (P : Shelf → Type 0) (t : Task) (p : Position) (ss : List Shelf) → Each P ss → T (held t ss p) → (s : Shelf) × P s × T (s.bits (code t s.frame p))
 each_held P t p [] e h = absurd h
-each_held P t p (s ∷ ss) e h = ⊎_elim (λ a. (s, e.0, a)) (λ a. each_held P t p ss e.1 a) (either (s.bits (code t s.frame p)) (held t ss p) h)
+each_held P t p (s ∷ ss) e h = ⊎_elim (λ a. (s, e.0, a)) (λ a. each_held P t p ss e.1 a) (grind arith)
 
 -- ---- the shelf of a frame
-
--- a fact about the test whether the shelf is of the frame f, in both cases
-pub by_frame : (s : Shelf) (f : ℕ) (Q : Bool → Type 0) → (s.frame ≡ f → Q true) → ((s.frame ≡ f → ⊥) → Q false) → Q (eqb s.frame f)
-by_frame s f Q same other = ⊎_elim (λ e. subst Q (sym (eq-eqb s.frame f e)) (same e)) (λ n. subst Q (sym (ne_eqb s.frame f n)) (other n)) (cases_eq s.frame f)
 
 pub each_has_shelf : (ss : List Shelf) → Each (λ r. T (has_shelf ss r.frame)) ss
 each_has_shelf [] = tt
 each_has_shelf (s ∷ ss) = (
-  either_first (eqb s.frame s.frame) (has_shelf ss s.frame) (eqb_refl s.frame),
-  each_weaker (λ r. T (has_shelf ss r.frame)) (λ r. T (has_shelf (s ∷ ss) r.frame)) (λ r h. either_second (eqb s.frame r.frame) _ h) ss (each_has_shelf ss),
+  grind (arith, eqb_refl s.frame),
+  each_weaker (λ r. T (has_shelf ss r.frame)) (λ r. T (has_shelf (s ∷ ss) r.frame)) (λ r h. grind arith) ss (each_has_shelf ss),
 )
 
 pub no_shelf : (ss : List Shelf) (f : ℕ) → T (not (has_shelf ss f)) → Each (λ s. s.frame ≡ f → ⊥) ss
@@ -86,4 +68,4 @@ no_shelf ss f h = each_weaker (λ r. T (has_shelf ss r.frame)) (λ r. r.frame �
 
 pub place_below : (ss : List Shelf) (f : ℕ) → T (has_shelf ss f) → place ss f < length ss
 place_below [] f h = absurd h
-place_below (s ∷ ss) f h = by_frame s f (λ b. T (b || has_shelf ss f) → cond b 0 (suc (place ss f)) < length (s ∷ ss)) (λ e k. omega arith) (λ n k. omega (arith, place_below ss f k)) h
+place_below (s ∷ ss) f h = grind (arith, place_below ss f)

@@ -1,10 +1,9 @@
 -- A closed set that rests on hopeless shelves is hopeless: in the projection, in the task, and in each task that reduces to it.
-use Rattle.std.proofs.Common.{ℕ, Bool, ◌&&◌, T, ◌⊎◌, List, [], ◌∷◌, sym, subst, inl, inr, ⊎_elim}
+use Rattle.std.proofs.Common.{ℕ, Bool, T, ◌⊎◌, List, [], ◌∷◌, sym, subst, inl, inr, ⊎_elim, arith}
 use Rattle.model.specs.Tasks.{Task, Position, Legal, Lawful, after, IsGoal, Leads, Hopeless}
 use Rattle.model.specs.Reductions.{Reduces, image_of}
 use Rattle.model.specs.LeaveOut.{kept}
 use Rattle.model.specs.Frames.{strictly_inside, onto, code}
-use Rattle.model.proofs.Truths.{both_first, both_second, either}
 use Rattle.model.proofs.Reducing.{after_legal, hopeless_down}
 use Rattle.model.proofs.LeavingOut.{leave_out_lawful, leave_out_reduces}
 use Rattle.model.proofs.Insides.{inside_strictly, leave_more_out}
@@ -24,11 +23,10 @@ module _ (t : Task) (f : ℕ) (law : Lawful t) where
   pub covered_hopeless : (ss : List Shelf) → Each (Sure t) ss → (p : Position) → Legal (onto f t) p → T (covered t ss f p) → Hopeless (onto f t) p
   covered_hopeless [] sure p h c = absurd c
   covered_hopeless (s ∷ ss) sure p h c = ⊎_elim
-      (λ here. sure_hopeless t s sure.0 (onto f t) (leave_out_lawful f t law)
-      (leave_more_out s.frame f t (inside_strictly s.frame f (both_first (strictly_inside s.frame f) _ here)))
-      p h (both_second (strictly_inside s.frame f) _ here))
+      (λ (here : T (strictly_inside s.frame f) × T (s.bits (code t s.frame p))).
+      sure_hopeless t s sure.0 (onto f t) (leave_out_lawful f t law) (leave_more_out s.frame f t (inside_strictly s.frame f here.0)) p h here.1)
       (λ there. covered_hopeless ss sure.1 p h there)
-      (either (strictly_inside s.frame f && s.bits (code t s.frame p)) _ c)
+      (grind arith)
 
   module _ (ss : List Shelf) (sure : Each (Sure t) ss) (set : ℕ → Bool) (closed : Closed t ss f set) where
     never : (os : List ℕ) (p q : Position) → Legal (onto f t) p → T (set (code t f p)) ⊎ T (covered t ss f p) → Leads (onto f t) os p q → IsGoal (onto f t) q → ⊥

@@ -1,10 +1,9 @@
 -- What an opening, filings of closed sets and plans leave: hopeless shelves, each closed, and a verdict that is right.
-use Rattle.std.proofs.Common.{◌≡◌, ℕ, Bool, true, false, cond, ◌||◌, T, ◌⊎◌, List, length, sym, refl, ◌∙◌, subst, inl, inr, ⊎_elim}
+use Rattle.std.proofs.Common.{◌≡◌, ℕ, Bool, true, false, cond, ◌||◌, T, ◌⊎◌, List, length, sym, refl, ◌∙◌, subst, inl, inr, ⊎_elim, arith}
 use Rattle.std.proofs.lemmas.Bool.{cond_both}
 use Rattle.model.specs.Tasks.{Task, Lawful, Hopeless, Plan}
 use Rattle.model.specs.Reductions.{Reduces}
-use Rattle.model.specs.Frames.{code, frame_size, IsFrame}
-use Rattle.model.proofs.Truths.{either}
+use Rattle.model.specs.Frames.{frame_size, IsFrame}
 use Rattle.model.proofs.Reducing.{start_down}
 use Rattle.shelves.specs.declared.verdict.Verdict.{Verdict}
 use Rattle.shelves.specs.declared.verdict.Verdict.TheVariants as verdict
@@ -62,7 +61,7 @@ planned_keeps s l = (grows_self s.shelves, found_keeps s.verdict l, (refl, refl)
 -- ---- what each step leaves
 
 sure_union : (t : Task) (f : ℕ) (a b : ℕ → Bool) → Sure t (shelf f a) → Sure t (shelf f b) → Sure t (shelf f (λ c. a c || b c))
-sure_union t f a b sa sb p h u = ⊎_elim (sa p h) (sb p h) (either (a (code t f p)) (b (code t f p)) u)
+sure_union t f a b sa sb p h u = ⊎_elim (sa p h) (sb p h) (grind arith)
 
 judged_right : (t : Task) (ss : List Shelf) (f : ℕ) (set : ℕ → Bool) (v : Verdict) → Right t ss v → Right t (joined ss f set) (judged v (held_at t (joined ss f set) (place ss f) t.start) (place ss f))
 judged_right t ss f set verdict.Open r = go (held_at t (joined ss f set) (place ss f) t.start) (λ k. k)
@@ -100,7 +99,7 @@ module _ (t : Task) (law : Lawful t) (s : State) where
               (closed_grows t ss new f set up closed);
           frames = each_joined (λ g x. IsFrame t g) (λ g a b h k. h) ss f set good.ordered.frames frame;
           apart = joined_apart ss f set good.ordered.apart;
-          fits = each_joined (Fits t) (λ g x y h k c u. ⊎_elim (h c) (k c) (either (x c) (y c) u)) ss f set good.ordered.fits fits;
+          fits = each_joined (Fits t) (λ g x y h k c u. ⊎_elim (h c) (k c) (grind arith)) ss f set good.ordered.fits fits;
         };
         right = judged_right t ss f set s.verdict good.right;
         same = good.same;

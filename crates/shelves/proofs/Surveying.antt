@@ -1,11 +1,8 @@
 -- A survey's set: the greatest closed one without the covered codes, the only one, and what a loop over marks makes of it.
-use Rattle.std.proofs.Common.{◌≡◌, ℕ, ◌<◌, Bool, not, ◌&&◌, T, ◌⊎◌, List, [], ◌∷◌, sym, subst, inl, inr, ⊎_elim, arith, T_not}
+use Rattle.std.proofs.Common.{◌≡◌, ℕ, ◌<◌, Bool, not, ◌&&◌, T, ◌⊎◌, List, [], ◌∷◌, subst, inl, inr, ⊎_elim, arith, T_not}
 use mathlib.Core.Path.{fun_ext}
-use lib.Dec.{not_T}
-use Rattle.std.proofs.lemmas.Bool.{cases_lt}
 use Rattle.model.specs.Tasks.{Task, Position, Legal, Lawful, Applies, after, IsGoal}
 use Rattle.model.specs.Frames.{onto, code, frame_size, values}
-use Rattle.model.proofs.Truths.{T_or_not, both, both_first, both_second, same_test}
 use Rattle.model.proofs.Reducing.{after_legal}
 use Rattle.model.proofs.LeavingOut.{leave_out_lawful}
 use Rattle.model.proofs.Coding.{values_legal, code_values}
@@ -28,8 +25,8 @@ module _ (t : Task) (law : Lawful t) (ss : List Shelf) (f : ℕ) where
         λ o l a.
             let q : Position = after (onto f t) o p in
             ⊎_elim inr
-            (λ free. inl ((s q (after_legal (onto f t) (leave_out_lawful f t law) o p h)).1 (free, λ os r. m.1 (o ∷ os) (m.0, l, a, r))))
-            (T_or_not (covered t ss f q)),
+            (λ (free : T (not (covered t ss f q))). inl ((s q (after_legal (onto f t) (leave_out_lawful f t law) o p h)).1 (free, λ os r. m.1 (o ∷ os) (m.0, l, a, r))))
+            (grind arith),
       )
 
   -- it has each position of a closed set, or a set like one, that is not covered
@@ -46,7 +43,7 @@ module _ (t : Task) (law : Lawful t) (ss : List Shelf) (f : ℕ) where
         (closed p h c)
 
     pub surveyed_has : (set : ℕ → Bool) → Surveyed t ss f set → (p : Position) → Legal (onto f t) p → C p → T (covered t ss f p) ⊎ T (set (code t f p))
-    surveyed_has set s p h c = ⊎_elim inl (λ free. inr ((s p h).1 (free, λ os r. never os p h c r))) (T_or_not (covered t ss f p))
+    surveyed_has set s p h c = grind (arith, (s p h).1, λ (os : List ℕ). never os p h c)
 
 pub surveys_greatest : SurveysGreatest
 surveys_greatest t law ss f set s = record {
@@ -62,13 +59,10 @@ module _ (t : Task) (law : Lawful t) (ss : List Shelf) (f : ℕ) (a b : ℕ → 
   surveyed_once x y c h =
       let p : Position = values t f c in
       let l : Legal (onto f t) p = values_legal t law f c in
-      subst (λ d. a d ≡ b d) (code_values t law f c h) (same_test (a (code t f p)) (b (code t f p)) (λ i. (y p l).1 ((x p l).0 i)) (λ i. (x p l).1 ((y p l).0 i)))
+      subst (λ d. a d ≡ b d) (code_values t law f c h) (grind (arith, x p l, y p l))
 
   pub files_once : Files t ss f a → Files t ss f b → a ≡ b
-  files_once x y = fun_ext (λ c. ⊎_elim
-      (λ l. surveyed_once x.0 y.0 c l)
-      (λ l. same_test (a c) (b c) (λ h. absurd (omega (arith, x.1 c h))) (λ h. absurd (omega (arith, y.1 c h))))
-      (cases_lt c (frame_size t f)))
+  files_once x y = fun_ext (λ c. grind (arith, surveyed_once x.0 y.0 c, x.1 c, y.1 c))
 
 -- ---- marks
 
@@ -86,7 +80,4 @@ module _ (t : Task) (law : Lawful t) (ss : List Shelf) (f : ℕ) (marks : ℕ �
 
   -- the codes that are neither hidden nor marked, where the hidden ones are the covered
   pub marked_surveyed : (hidden : ℕ → Bool) → ((p : Position) → Legal (onto f t) p → hidden (code t f p) ≡ covered t ss f p) → Surveyed t ss f (λ c. not (hidden c) && not (marks c))
-  marked_surveyed hidden same p h = (
-    (λ b. (subst (λ x. T (not x)) (same p h) (both_first (not (hidden (code t f p))) _ b), λ os r. T_not _ (both_second (not (hidden (code t f p))) _ b) (reaches_marked os p h r))),
-    (λ k. both (not (hidden (code t f p))) _ (subst (λ x. T (not x)) (sym (same p h)) k.0) (not_T _ (λ b. let r = m.reach p h b in k.1 r.0 r.1))),
-  )
+  marked_surveyed hidden same p h = grind (arith, same p h, m.reach p h, λ (os : List ℕ). reaches_marked os p h)
