@@ -1,7 +1,8 @@
 -- The list of all sets of k candidates has each of them, and is in the order of their ascending lists.
-use Rattle.std.proofs.Common.{◌≡◌, ℕ, zero, suc, ◌+◌, ◌-◌, ◌*◌, ◌/◌, ◌%◌, ◌^◌, ◌<◌, ◌≤◌, min, Bool, true, false, cond, eqb, List, [], ◌∷◌, ◌++◌, map, sym, refl, ap, ◌∙◌, subst, mul_assoc, pow-suc, mul-add, arith}
+use Rattle.std.proofs.Common.{◌≡◌, ℕ, zero, suc, ◌+◌, ◌-◌, ◌*◌, ◌/◌, ◌^◌, ◌<◌, ◌≤◌, min, Bool, cond, List, [], ◌∷◌, ◌++◌, map, sym, refl, ap, ◌∙◌, subst, mul_assoc, pow-suc, mul-add, arith}
 use mathlib.Core.List.{map-append}
 use native.Mathlib.Nat.{div-div-eq-div-mul}
+use Rattle.std.proofs.lemmas.Bool.Decides.{nat_tests}
 use lib.Count.{ones, ones_step, ones-le}
 use Rattle.model.specs.LeaveOut.{has}
 use Rattle.model.specs.Frames.{choose, In, InOrder}
@@ -16,15 +17,14 @@ halved c v = ap (λ (x : ℕ). c / x) (pow-suc 2 v) ∙ sym (div-div-eq-div-mul 
 
 maps_agree : (a b d e : ℕ → ℕ) → ((x : ℕ) → a (b x) ≡ d (e x)) → (xs : List ℕ) → map a (map b xs) ≡ map d (map e xs)
 maps_agree a b d e same [] = refl
-maps_agree a b d e same (x ∷ xs) = ap (λ y. y ∷ map a (map b xs)) (same x) ∙ ap (λ ys. d (e x) ∷ ys) (maps_agree a b d e same xs)
+maps_agree a b d e same (x ∷ xs) = grind (arith, same x, maps_agree a b d e same xs)
 
 map_cond : (b : Bool) (d : ℕ → ℕ) (xs : List ℕ) → cond b (map d xs) [] ≡ map d (cond b xs [])
-map_cond true d xs = refl
-map_cond false d xs = refl
+map_cond b d xs = grind arith
 
 map_same : (d : ℕ → ℕ) → ((x : ℕ) → d x ≡ x) → (xs : List ℕ) → map d xs ≡ xs
 map_same d same [] = refl
-map_same d same (x ∷ xs) = ap (λ y. y ∷ map d xs) (same x) ∙ ap (λ ys. x ∷ ys) (map_same d same xs)
+map_same d same (x ∷ xs) = grind (arith, same x, map_same d same xs)
 
 among_moved : (c n v k : ℕ) → among c n v k ≡ map (λ f. 2 ^ v * f) (pick (c / 2 ^ v) n k)
 unfolding among
@@ -59,18 +59,12 @@ frames_picked c k =
 
 -- ---- as many variables as set bits
 
-one_bit : (r : ℕ) → r < 2 → cond (eqb r 1) 1 0 ≡ r
-one_bit zero h = refl
-one_bit (suc zero) h = refl
-one_bit (suc (suc r)) h = absurd (omega arith)
-
 count_ones : (f n v : ℕ) → f / 2 ^ v < 2 ^ n → count f n v ≡ ones (f / 2 ^ v)
 unfolding count
 count_ones f zero v h = omega (arith, ones-le 0 (f / 2 ^ v) h)
 count_ones f (suc n) v h =
     let up : f / 2 ^ suc v < 2 ^ n = omega (arith, halved f v) in
-    let rest : count f n (suc v) ≡ ones (f / 2 ^ v / 2) = count_ones f n (suc v) up ∙ ap ones (halved f v) in
-    omega (arith, one_bit (f / 2 ^ v % 2) (omega arith), ones_step (f / 2 ^ v))
+    grind (arith, nat_tests, count_ones f n (suc v) up, halved f v, ones_step (f / 2 ^ v))
 
 pub count_all : (f : ℕ) → f < 2 ^ 32 → count f 32 0 ≡ ones f
 count_all f h = let z : f / 2 ^ 0 ≡ f = omega arith in count_ones f 32 0 (omega arith) ∙ ap ones z

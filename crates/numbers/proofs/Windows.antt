@@ -1,8 +1,9 @@
 -- Walking up the variables, the sets that go on from here stand in one window of all sets.
-use Rattle.std.proofs.Common.{◌≡◌, ℕ, zero, suc, ◌+◌, ◌^◌, ◌<◌, ◌≤◌, Bool, true, false, cond, ◌&&◌, ltb, ◌⊎◌, List, [], ◌∷◌, ◌++◌, map, length, get_or, sym, refl, ap, ◌∙◌, subst, inl, inr, ⊎_elim, arith, length-append, pow_pos, pow_mono}
+use Rattle.std.proofs.Common.{◌≡◌, ℕ, zero, suc, ◌+◌, ◌^◌, ◌<◌, ◌≤◌, true, false, cond, ◌&&◌, ltb, List, [], ◌∷◌, ◌++◌, map, length, get_or, sym, refl, ap, ◌∙◌, subst, ⊎_elim, arith, length-append, pow_pos, pow_mono}
 use lib.ListN.{length-map}
 use Rattle.std.proofs.lemmas.List.{get_or_append_left, get_or-append-add, get_or-map}
-use Rattle.std.proofs.lemmas.Bool.{cases_lt, cond-true, cond-false, and_from, lt-ltb}
+use Rattle.std.proofs.lemmas.Bool.Decides.{nat_tests}
+use Rattle.std.proofs.lemmas.Bool.{cases_Bool}
 use Rattle.model.specs.LeaveOut.{has}
 use Rattle.model.specs.Frames.{choose}
 use Rattle.counts.proofs.Entries.{choose_more}
@@ -11,15 +12,15 @@ use Rattle.numbers.specs.Numbers.{count, among, frames, before}
 module _ (c n v : ℕ) where
   pub count_in : has c v ≡ true → count c (suc n) v ≡ suc (count c n (suc v))
   unfolding count
-  count_in e = omega (arith, cond-true {A = ℕ} (has c v) 1 0 e)
+  count_in e = grind arith
 
   pub count_out : has c v ≡ false → count c (suc n) v ≡ count c n (suc v)
   unfolding count
-  count_out e = omega (arith, cond-false {A = ℕ} (has c v) 1 0 e)
+  count_out e = grind arith
 
   pub among_in : (k : ℕ) → has c v ≡ true → among c (suc n) v (suc k) ≡ map (λ f. 2 ^ v + f) (among c n (suc v) k) ++ among c n (suc v) (suc k)
   unfolding among
-  among_in k e = ap (λ xs. xs ++ among c n (suc v) (suc k)) (cond-true (has c v) (map (λ f. 2 ^ v + f) (among c n (suc v) k)) [] e)
+  among_in k e = grind arith
 
   pub among_none : among c n v 0 ≡ 0 ∷ []
   unfolding among
@@ -28,11 +29,7 @@ module _ (c n v : ℕ) where
 pub among_out : (c n v k : ℕ) → has c v ≡ false → among c (suc n) v k ≡ among c n (suc v) k
 unfolding among
 among_out c n v zero e = refl
-among_out c n v (suc k) e = ap (λ xs. xs ++ among c n (suc v) (suc k)) (cond-false (has c v) (map (λ f. 2 ^ v + f) (among c n (suc v) k)) [] e)
-
-either : (b : Bool) → (b ≡ true) ⊎ (b ≡ false)
-either true = inl refl
-either false = inr refl
+among_out c n v (suc k) e = grind arith
 
 -- there are as many sets of candidates as of things
 pub among_length : (c n v k : ℕ) → length (among c n v k) ≡ length (choose (count c n v) k)
@@ -46,7 +43,7 @@ among_length c (suc n) v (suc k) = ⊎_elim
     ∙ ap (λ x. length (choose (count c n (suc v)) k) + x) (among_length c n (suc v) (suc k))
     ∙ sym (ap (λ a. length (choose a (suc k))) (count_in c n v e) ∙ choose_more (count c n (suc v)) k))
     (λ e. ap length (among_out c n v (suc k) e) ∙ among_length c n (suc v) (suc k) ∙ sym (ap (λ a. length (choose a (suc k))) (count_out c n v e)))
-    (either (has c v))
+    (cases_Bool (has c v))
 
 -- of all sets, those from `from` on that have the variables of `low` and go on as in `rest`
 pub record Window (all rest : List ℕ) (from low : ℕ) : Type 0 where
@@ -105,10 +102,7 @@ module _ (all : List ℕ) (c n v from low : ℕ) where
 pub count_le : (f n v : ℕ) → count f n v ≤ n
 unfolding count
 count_le f zero v = omega arith
-count_le f (suc n) v = ⊎_elim
-    (λ e. omega (arith, count_in f n v e, count_le f n (suc v)))
-    (λ e. omega (arith, count_out f n v e, count_le f n (suc v)))
-    (either (has f v))
+count_le f (suc n) v = grind (arith, count_le f n (suc v))
 
 choose_one : (k : ℕ) → length (choose 0 k) ≤ 1
 choose_one zero = omega arith
@@ -129,16 +123,9 @@ choose_over zero (suc k) h = refl
 choose_over (suc a) zero h = absurd (omega arith)
 choose_over (suc a) (suc k) h = omega (arith, choose_more a k, choose_over a k (omega arith), choose_over a (suc k) (omega arith))
 
-zero_both : (b : Bool) → cond {A = ℕ} b 0 0 ≡ 0
-zero_both true = refl
-zero_both false = refl
-
 -- the table's answer, which is 0 past its end
 counted : (a k : ℕ) → a ≤ 32 → cond (ltb a 33 && ltb k 33) (length (choose a k)) 0 ≡ length (choose a k)
-counted a k h = ⊎_elim
-    (λ l. cond-true (ltb a 33 && ltb k 33) (length (choose a k)) 0 (and_from (ltb a 33) (ltb k 33) (lt-ltb a 33 (omega arith)) (lt-ltb k 33 l)))
-    (λ l. let none = choose_over a k (omega arith) in ap (λ x. cond (ltb a 33 && ltb k 33) x 0) none ∙ zero_both (ltb a 33 && ltb k 33) ∙ sym none)
-    (cases_lt k 33)
+counted a k h = grind (arith, nat_tests, choose_over a k)
 
 -- how many sets of candidates there are, from the table and within 32 bits
 pub frames_counted : (c k : ℕ) → length (frames c k) ≡ cond (ltb (count c 32 0) 33 && ltb k 33) (length (choose (count c 32 0) k)) 0
