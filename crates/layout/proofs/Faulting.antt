@@ -1,9 +1,9 @@
 -- Which fault of a card is tried first, and what words without a fault are.
-use Rattle.std.proofs.Common.{◌≡◌, ℕ, suc, ◌+◌, ◌<◌, ◌≤◌, cond, eqb, List, length, Some, None, Ok, Err, Result, sym, refl, subst, inl, inr, ⊎_elim, arith}
-use Rattle.std.proofs.lemmas.Bool.{cases_lt, cases_eq}
+use Rattle.std.proofs.Common.{◌≡◌, ℕ, ◌+◌, ◌≤◌, cond, eqb, List, length, Some, None, Ok, Err, Result, sym, refl, subst, arith}
+use Rattle.std.proofs.lemmas.Bool.{cases_eq}
 use Rattle.std.specs.Result.{IsErrAnd}
 use Rattle.model.specs.Orders.{First, Least}
-use Rattle.model.specs.Card.{word, variables, operators, records, size_at, start_at, goal_at, variable_of, value_of, next_at, next_of, card_length, Version, Counts, Length, Sizes, Starts, Heads, Nexts, Records, Ascends, IsCard, WholeChain}
+use Rattle.model.specs.Card.{word, records, size_at, start_at, goal_at, record_at, next_at, card_length, Version, Counts, Length, Sizes, Starts, Heads, Nexts, Records, Ascends, IsCard, WholeChain}
 use Rattle.model.proofs.Firsts as firsts
 use Rattle.model.proofs.Chains.{chain_whole}
 use Rattle.layout.specs.declared.fault.CardFault.{CardFault}
@@ -26,26 +26,10 @@ fault k i =
     (BadOrder i))))))))
 
 back : (e : CardFault) → fault (number e) (place e) ≡ e
-back (TooShort given) = refl
-back OtherVersion = refl
-back (BadCount i) = refl
-back (WrongLength given) = refl
-back (BadSize i) = refl
-back (BadStart i) = refl
-back (BadLink i) = refl
-back (BadRecord i) = refl
-back (BadOrder i) = refl
+back e = grind arith
 
 up_to_nine : (e : CardFault) → (1 ≤ number e) × (number e ≤ 9)
-up_to_nine (TooShort given) = (omega arith, omega arith)
-up_to_nine OtherVersion = (omega arith, omega arith)
-up_to_nine (BadCount i) = (omega arith, omega arith)
-up_to_nine (WrongLength given) = (omega arith, omega arith)
-up_to_nine (BadSize i) = (omega arith, omega arith)
-up_to_nine (BadStart i) = (omega arith, omega arith)
-up_to_nine (BadLink i) = (omega arith, omega arith)
-up_to_nine (BadRecord i) = (omega arith, omega arith)
-up_to_nine (BadOrder i) = (omega arith, omega arith)
+up_to_nine e = grind arith
 
 -- ---- tests that are made one after the other, by number
 
@@ -73,49 +57,32 @@ links ws (Err e) none h = (h.0, h.1, firsts.least_right (WrongHead ws) (WrongNex
 -- ---- words without a fault are a card
 
 module _ (ws : List ℕ) (none : (e : CardFault) → CardWrong ws e → ⊥) where
-  -- what is wrong where a bound is passed, is not passed
-  at_most : (x y : ℕ) (e : CardFault) → (y < x → CardWrong ws e) → x ≤ y
-  at_most x y e w = ⊎_elim (λ l. absurd (none e (w l))) (λ l. l) (cases_lt y x)
-
-  same : (x y : ℕ) (e : CardFault) → ((x ≡ y → ⊥) → CardWrong ws e) → x ≡ y
-  same x y e w = ⊎_elim (λ q. q) (λ n. absurd (none e (w n))) (cases_eq x y)
-
   version : Version ws
-  version = same (word ws 0) 1 OtherVersion (λ n. n)
+  version = grind (arith, cases_eq (word ws 0) 1, none OtherVersion)
 
   counts : Counts ws
-  counts = (
-    at_most 1 (variables ws) (BadCount 1) (λ l. inl (refl, λ h. omega (arith, h.0))),
-    at_most (variables ws) 32 (BadCount 1) (λ l. inl (refl, λ h. omega (arith, h.1))),
-    at_most (operators ws) 1024 (BadCount 2) (λ l. inr (inl (refl, l))),
-    at_most (records ws) 8192 (BadCount 3) (λ l. inr (inr (refl, l))),
-  )
+  counts = grind (arith, none (BadCount 1), none (BadCount 2), none (BadCount 3))
 
   whole : Length ws
-  whole = same (length ws) (card_length ws) (WrongLength (length ws)) (λ n. (refl, n))
+  whole = grind (arith, cases_eq (length ws) (card_length ws), none (WrongLength (length ws)))
 
   sizes : Sizes ws
-  sizes v l = (
-    at_most 1 (word ws (size_at ws v)) (BadSize (size_at ws v)) (λ k. (v, l, refl, λ h. omega (arith, h.0))),
-    at_most (word ws (size_at ws v)) 64 (BadSize (size_at ws v)) (λ k. (v, l, refl, λ h. omega (arith, h.1))),
-  )
+  sizes v l = grind (arith, none (BadSize (size_at ws v)))
 
   starts : Starts ws
-  starts v l = at_most (suc (word ws (start_at ws v))) (word ws (size_at ws v)) (BadStart (start_at ws v)) (λ k. (v, l, refl, omega arith))
+  starts v l = grind (arith, none (BadStart (start_at ws v)))
 
   heads : Heads ws
-  heads i l = at_most (word ws (goal_at ws + i)) (records ws) (BadLink (goal_at ws + i)) (λ k. inl (omega arith, omega arith, k))
+  heads i l = grind (arith, none (BadLink (goal_at ws + i)))
 
   nexts : Nexts ws
-  nexts k is = at_most (next_of ws k) (records ws) (BadLink (next_at ws k)) (λ l. inr (k, is, refl, l))
+  nexts k is = grind (arith, none (BadLink (next_at ws k)))
 
   recs : Records ws
-  recs k is =
-      let v : variable_of ws k < variables ws = at_most (suc (variable_of ws k)) (variables ws) (BadRecord _) (λ l. (k, is, inl (refl, omega arith))) in
-      (v, at_most (suc (value_of ws k)) (word ws (size_at ws (variable_of ws k))) (BadRecord _) (λ l. (k, is, inr (refl, v, omega arith))))
+  recs k is = grind (arith, none (BadRecord (record_at ws k)), none (BadRecord (record_at ws k + 1)))
 
   ascends : Ascends ws
-  ascends k is l = at_most (suc (variable_of ws k)) (variable_of ws (next_of ws k)) (BadOrder (next_at ws k)) (λ h. (k, is, refl, l, omega arith))
+  ascends k is l = grind (arith, none (BadOrder (next_at ws k)))
 
   -- and its chains are whole
   clean_card : ((e : CardFault) → CardWrong ws e → ⊥) × IsCard ws × ((k : ℕ) → k ≤ records ws → WholeChain ws k)
