@@ -1,8 +1,6 @@
 -- Which fault of a group is tried first, and when nothing is wrong.
 use Rattle.std.proofs.Common.{◌≡◌, ℕ, ◌*◌, ◌<◌, ◌≤◌, true, false, List, length, Some, None, Option, arith}
 use Rattle.std.specs.Option.{MatchOption}
-use Rattle.std.proofs.lemmas.Bool.{both_ways}
-use Rattle.model.proofs.Truths.{true_T, T_true}
 use Rattle.model.specs.Tasks.{Task}
 use Rattle.model.specs.Orders.{Earlier, First, Least}
 use Rattle.shelves.specs.Shelves.{bit_of, bytes_for}
@@ -84,8 +82,8 @@ module _ (size : ℕ) (bytes : List ℕ) where
 
   -- what a search from `size` on tells
   pub spare_least : (r : Option ℕ) → MatchOption r ((c : ℕ) → size ≤ c → c < 8 * length bytes → bit_of bytes c ≡ false) (λ b. (size ≤ b) × (b < 8 * length bytes) × (bit_of bytes b ≡ true) × ((c : ℕ) → size ≤ c → c < b → bit_of bytes c ≡ false)) → Least Spare r
-  spare_least None none = λ b s. both_ways (bit_of bytes b) (none b s.0 s.1) s.2
-  spare_least (Some b) (h, l, e, first) = ((h, l, e), λ c k s. both_ways (bit_of bytes c) (first c s.0 k) s.2)
+  spare_least None none = λ b s. grind (arith, none b)
+  spare_least (Some b) (h, l, e, first) = ((h, l, e), λ c k s. grind (arith, first c))
 
   pub first_length : (length bytes ≡ bytes_for size → ⊥) → First register_turn (BytesWrong size bytes) (WrongLength (length bytes))
   first_length h = (misfit h, go)
@@ -95,12 +93,12 @@ module _ (size : ℕ) (bytes : List ℕ) where
       go _ (spare b _ _) k = omega arith
 
   pub first_spare : length bytes ≡ bytes_for size → (b : ℕ) → Least Spare (Some b) → First register_turn (BytesWrong size bytes) (SpareBit b)
-  first_spare e b least = (spare b least.0.0 (true_T (bit_of bytes b) least.0.2), go)
+  first_spare e b least = (spare b least.0.0 (grind (arith, least)), go)
     where
       go : (d : RegisterFault) → BytesWrong size bytes d → Earlier (register_turn d) (register_turn (SpareBit b)) → ⊥
       go _ (misfit w) k = w e
-      go _ (spare c l w) k = least.1 c (omega arith) (l, bit_within bytes c w, T_true (bit_of bytes c) w)
+      go _ (spare c l w) k = least.1 c (omega arith) (l, bit_within bytes c w, grind arith)
 
   pub bytes_right : length bytes ≡ bytes_for size → Least Spare None → (e : RegisterFault) → BytesWrong size bytes e → ⊥
   bytes_right e none _ (misfit w) = w e
-  bytes_right e none _ (spare c l w) = none c (l, bit_within bytes c w, T_true (bit_of bytes c) w)
+  bytes_right e none _ (spare c l w) = none c (l, bit_within bytes c w, grind arith)

@@ -1,10 +1,8 @@
 -- A claim's set, code by code: what the tests of one code tell, and which fault is tried first.
-use Rattle.std.proofs.Common.{◌≡◌, ℕ, ◌+◌, ◌<◌, Bool, true, false, not, ◌&&◌, T, List, Some, Decides, sym, ap, ◌∙◌, subst, subst₂, ⊎_elim, arith, below_more}
-use Rattle.std.proofs.lemmas.Bool.{false≢true}
+use Rattle.std.proofs.Common.{◌≡◌, ℕ, ◌+◌, ◌<◌, Bool, true, false, not, ◌&&◌, List, Some, Decides, sym, ap, ◌∙◌, subst, subst₂, arith, below_more}
 use Rattle.model.specs.Tasks.{Task, Position, Lawful, Applies, after, IsGoal}
 use Rattle.model.specs.Orders.{Earlier, First}
 use Rattle.model.specs.Frames.{onto, width_by, values_by, code, frame_size, values}
-use Rattle.model.proofs.Truths.{true_T, T_true, both, both_first, both_second}
 use Rattle.model.proofs.Coding.{values_legal, values_code}
 use Rattle.model.proofs.LeavingOut.{leave_out_lawful}
 use Rattle.model.proofs.Reducing.{after_legal}
@@ -50,18 +48,15 @@ module _ (t : Task) (q : Claim) where
   first_goal c low o g = (meets c o g, go)
     where
       go : (e : RegisterFault) → SetWrong t below mask set e → Earlier (register_turn e) (register_turn (MeetsGoal c)) → ⊥
-      go _ (meets k p h) e = ⊎_elim (λ l. omega arith) (λ a. ⊎_elim (λ l. (low k l p).0 h) (λ b. omega (arith, b.1)) a.1) e
-      go _ (leads k u p l w) e = ⊎_elim (λ l. omega arith) (λ a. ⊎_elim (λ l'. (low k l' p).1 u l w) (λ b. omega (arith, b.1)) a.1) e
+      go _ (meets k p h) e = grind (arith, low k)
+      go _ (leads k u p l w) e = grind (arith, low k)
 
   first_out : (c o : ℕ) → SealedBelow t q c → Open t below mask set c → (IsGoal (onto mask t) (values t mask c) → ⊥) → o < t.m → Leaves t below mask set c o → KeptBelow t q c o → First register_turn (SetWrong t below mask set) (LeadsOut c o)
   first_out c o low p none l w least = (leads c o p l w, go)
     where
       go : (e : RegisterFault) → SetWrong t below mask set e → Earlier (register_turn e) (register_turn (LeadsOut c o)) → ⊥
-      go _ (meets k p' h) e =
-          ⊎_elim (λ l. omega arith) (λ a. ⊎_elim (λ l'. (low k l' p').0 h) (λ b. none (subst (λ x. IsGoal (onto mask t) (values t mask x)) b.0 h)) a.1) e
-      go _ (leads k u p' m v) e =
-          ⊎_elim (λ l. omega arith)
-          (λ a. ⊎_elim (λ l'. (low k l' p').1 u m v) (λ b. least u (omega (arith, b.1)) (subst (λ x. Leaves t below mask set x u) b.0 v)) a.1) e
+      go _ (meets k p' h) e = grind (arith, low k)
+      go _ (leads k u p' m v) e = grind (arith, low k, least u)
 
 -- ---- what the tests of a code tell
 
@@ -85,12 +80,10 @@ module _ (t : Task) (law : Lawful t) (q : Claim) (fits : Fits t q.frame.now q.sh
   size_same = frame.whole ∙ (λ i. width_by (fits.1 i) f (fits.0 i))
 
   is_open : (c : ℕ) → c < frame.size → true ≡ (bit_of bytes c && not (code_covered q c)) → Open t ss f (bit_of bytes) c
-  is_open c h e =
-      let both_hold = true_T (bit_of bytes c && not (code_covered q c)) (sym e) in
-      (subst (λ n. c < n) size_same h, both_first (bit_of bytes c) (not (code_covered q c)) both_hold, subst (λ b. T (not b)) (covered_code c) (both_second (bit_of bytes c) (not (code_covered q c)) both_hold))
+  is_open c h e = grind (arith, size_same, covered_code c)
 
   not_open : (c : ℕ) → false ≡ (bit_of bytes c && not (code_covered q c)) → Open t ss f (bit_of bytes) c → ⊥
-  not_open c e o = false≢true (e ∙ T_true (bit_of bytes c && not (code_covered q c)) (both (bit_of bytes c) (not (code_covered q c)) o.1 (subst (λ b. T (not b)) (sym (covered_code c)) o.2)))
+  not_open c e o = grind (arith, covered_code c)
 
   goal_same : (c : ℕ) → IsGoal (onto f t) (values t f c) → IsGoal (onto f t) (values_by (size_in frame.sizes) f c)
   goal_same c h = subst (λ size. IsGoal (onto f t) (values_by size f c)) (sym fits.1) h
@@ -112,15 +105,7 @@ module _ (t : Task) (law : Lawful t) (q : Claim) (fits : Fits t q.frame.now q.sh
         ∙ ap (covered t ss f) (values_code t law f next (after_legal (onto f t) (leave_out_lawful f t law) o (values t f c) (values_legal t law f c)))
 
     pub leaves_decided : Decides (not (bit_of bytes d) && not (code_covered q d)) (Leaves t ss f (bit_of bytes) c o)
-    leaves_decided = (
-      λ h. let out = true_T (not (bit_of bytes d) && not (code_covered q d)) h in (
-        there.0,
-        subst (λ x. T (not (bit_of bytes x))) there.1 (both_first (not (bit_of bytes d)) (not (code_covered q d)) out),
-        subst (λ b. T (not b)) covered_next (both_second (not (bit_of bytes d)) (not (code_covered q d)) out),
-      ),
-      λ l. T_true (not (bit_of bytes d) && not (code_covered q d))
-          (both (not (bit_of bytes d)) (not (code_covered q d)) (subst (λ x. T (not (bit_of bytes x))) (sym there.1) l.1) (subst (λ b. T (not b)) (sym covered_next) l.2)),
-    )
+    leaves_decided = grind (arith, there, covered_next)
 
   -- ---- the walk over the codes
 
