@@ -12,7 +12,6 @@ pub mod Joining
 pub mod Stacking
 pub mod Masks
 pub mod Coding
-pub mod Truths
 pub mod Insides
 pub mod Choosing
 pub mod Widening

@@ -9,7 +9,3 @@ holds_none w x e = grind arith
 pub holds_or_not : (w : Option ℕ) (x : ℕ) → Holds w x ⊎ (Holds w x → ⊥)
 holds_or_not None x = inl tt
 holds_or_not (Some y) x = cases_eq x y
-
--- a wanted value that holds is the value there
-pub holds_some : (w : Option ℕ) (x y : ℕ) → w ≡ Some y → Holds w x → x ≡ y
-holds_some w x y e h = grind arith
