@@ -1,5 +1,5 @@
 -- One shelf more in memory, and bits that join one of the shelves: how the layout is kept.
-use Rattle.std.proofs.Common.{◌≡◌, ℕ, ◌+◌, ◌<◌, ◌≤◌, true, false, ◌≢◌, List, [], ◌∷◌, ◌++◌, map, length, get_or, take, drop, set, sym, refl, ap, ◌∙◌, subst, ⊎_elim, add_assoc, zero-add, arith, get_or-set_other, get_or-set_same, below_more}
+use Rattle.std.proofs.Common.{◌≡◌, ℕ, ◌+◌, ◌<◌, ◌≤◌, true, false, ◌≢◌, List, [], ◌∷◌, ◌++◌, map, length, get_or, take, drop, set, sym, refl, ap, ◌∙◌, subst, ⊎_elim, arith, get_or-set_other, get_or-set_same, below_more}
 use borrow.Rule.Slice.PartMut.{put_mid}
 use Rattle.std.proofs.lemmas.List.{get_or_default, take-set, take-set-le, take_more_set, map-set, length-map, take_more, take-take, take-append-drop}
 use Rattle.std.proofs.lemmas.Bool.{cases_eq, cases_order, both_ways}
@@ -10,8 +10,8 @@ use Rattle.records.specs.Layout.{laid, Placed, Distinct, Counted, Sized, NoSpare
 use Rattle.records.proofs.Laying.{window_below, window_above, window_same}
 
 laid-++ : (xs ys : List Shelf) → laid (xs ++ ys) ≡ laid xs + laid ys
-laid-++ [] ys = sym (zero-add (laid ys))
-laid-++ (x ∷ xs) ys = ap (λ n. bytes_for x.frame.size + n) (laid-++ xs ys) ∙ sym (add_assoc (bytes_for x.frame.size) (laid xs) (laid ys))
+laid-++ [] ys = omega arith
+laid-++ (x ∷ xs) ys = omega (arith, laid-++ xs ys)
 
 laid_up : (rs : List Shelf) (j n : ℕ) → j ≤ n → laid (take j rs) ≤ laid (take n rs)
 laid_up rs j n h =

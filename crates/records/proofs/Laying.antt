@@ -2,7 +2,6 @@
 use Rattle.std.proofs.Common.{◌≡◌, ℕ, zero, suc, ◌+◌, ◌-◌, ◌<◌, ◌≤◌, Bool, true, false, cond, ◌||◌, eqb, List, [], ◌∷◌, length, get_or, take, drop, sym, refl, ap, ◌∙◌, subst, arith}
 use mathlib.Core.Path.{fun_ext}
 use borrow.Rule.Slice.PartMut.{put_mid}
-use Rattle.std.specs.List.{AllByRecursion}
 use Rattle.std.proofs.lemmas.List.{get_or-take, take-take, length-take-le}
 use Rattle.std.proofs.lemmas.Slice.{between_is, between-put_mid, take-put_mid_below, drop-put_mid}
 use Rattle.shelves.specs.Shelves.{bit_of, bytes_for, place}
@@ -10,11 +9,6 @@ use Rattle.shelves.specs.Filing.{joined}
 use Rattle.records.specs.declared.shelf.Shelf.{Shelf}
 use Rattle.records.specs.Records.{bytes_of, shelf_of, shelves_of}
 use Rattle.records.specs.Layout.{laid, Placed}
-
--- what holds at each place holds of each element
-pub all_places : {X : Type 0} (P : X → Type 0) (xs : List X) → ((i : ℕ) (d : X) → i < length xs → P (get_or xs i d)) → AllByRecursion P xs
-all_places P [] f = tt
-all_places P (x ∷ xs) f = (f 0 x (omega arith), all_places P xs (λ i d h. f (suc i) d (omega arith)))
 
 -- ---- shelves in a row
 

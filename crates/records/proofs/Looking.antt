@@ -1,10 +1,10 @@
 -- What the bytes of a shelf and a walk over the records tell.
-use Rattle.std.proofs.Common.{◌≡◌, ℕ, suc, ◌+◌, ◌<◌, ◌≤◌, cond, ◌&&◌, ◌||◌, eqb, List, [], ◌∷◌, length, Bool, not, ltb, Some, None, refl, ap, ⊎_elim, arith}
+use Rattle.std.proofs.Common.{◌≡◌, ℕ, ◌+◌, ◌<◌, ◌≤◌, cond, ◌&&◌, eqb, List, [], ◌∷◌, length, Bool, not, ltb, Some, None, refl, arith}
 use Rattle.std.specs.List.{list_any, position, position_or_len}
 use Rattle.std.specs.Option.{MatchOption}
 use Rattle.std.proofs.lemmas.List.Sums.{prefix_len-le-length}
 use Rattle.std.proofs.lemmas.List.Recursion.{is_position_or_len}
-use Rattle.std.proofs.lemmas.Bool.{cases_lt, lt-ltb, le-ltb}
+use Rattle.std.proofs.lemmas.Bool.Decides.{nat_tests}
 use Rattle.model.specs.Tasks.{Task, Position}
 use Rattle.model.specs.Frames.{strictly_inside, code_by, code}
 use Rattle.frame.specs.Held.{size_in}
@@ -16,7 +16,7 @@ use Rattle.records.specs.Records.{bytes_of, shelves_of, on, covered_in, Framed}
 
 pub covered_any : (pool : List ℕ) (rs : List Shelf) (f : ℕ) (p : Position) → list_any (λ r. strictly_inside r.frame.mask f && on pool r p) rs ≡ covered_in pool rs f p
 covered_any pool [] f p = refl
-covered_any pool (r ∷ rs) f p = ap (λ b. (strictly_inside r.frame.mask f && on pool r p) || b) (covered_any pool rs f p)
+covered_any pool (r ∷ rs) f p = grind (arith, covered_any pool rs f p)
 
 -- a frame has no shelf exactly where its place is the number of shelves
 pub place_told : (pool : List ℕ) (rs : List Shelf) (f : ℕ) → MatchOption (position (λ r. eqb r.frame.mask f) rs) (place (shelves_of pool rs) f ≡ length rs) (λ i. (i < length rs) × (place (shelves_of pool rs) f ≡ i))
@@ -26,10 +26,10 @@ place_told pool rs f = told (position_or_len is_frame rs) (prefix_len-le-length 
     is_frame r = eqb r.frame.mask f
 
     next : (r : Shelf) (l : List Shelf) → place (shelves_of pool (r ∷ l)) f ≡ cond (is_frame r) 0 (1 + place (shelves_of pool l) f)
-    next r l = let e : suc (place (shelves_of pool l) f) ≡ 1 + place (shelves_of pool l) f = omega arith in ap (cond (is_frame r) 0) e
+    next r l = grind arith
 
     told : (n : ℕ) → n ≤ length rs → place (shelves_of pool rs) f ≡ n → MatchOption (cond (ltb n (length rs)) (Some n) None) (place (shelves_of pool rs) f ≡ length rs) (λ i. (i < length rs) × (place (shelves_of pool rs) f ≡ i))
-    told n h e = ⊎_elim (λ l. rw (lt-ltb n (length rs) l) (l, e)) (λ l. rw (le-ltb n (length rs) l) (omega arith)) (cases_lt n (length rs))
+    told n h e = grind (arith, nat_tests)
 
 -- ---- by the sizes of a task
 
@@ -39,4 +39,4 @@ module _ (t : Task) (pool : List ℕ) where
 
   pub covered_same : (rs : List Shelf) (f : ℕ) (p : Position) → Framed t.n t.size rs → covered_in pool rs f p ≡ covered t (shelves_of pool rs) f p
   covered_same [] f p h = refl
-  covered_same (r ∷ rs) f p h = λ i. (strictly_inside r.frame.mask f && on_same r p h.0 i) || covered_same rs f p h.1 i
+  covered_same (r ∷ rs) f p h = grind (arith, on_same r p h.0, covered_same rs f p h.1)

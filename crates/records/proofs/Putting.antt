@@ -1,9 +1,8 @@
 -- Bits of bytes: what setting one changes, and a loop that adds the members of a set.
-use Rattle.std.proofs.Common.{◌≡◌, ℕ, ◌+◌, ◌*◌, ◌/◌, ◌%◌, ◌^◌, ◌<◌, Bool, true, false, cond, ◌&&◌, ◌||◌, eqb, ltb, not, ◌⊎◌, List, length, get_or, set, sym, ap, ◌∙◌, ⊎_elim, add-one, ap₂, zero-add, arith, get_or-set_other, get_or-set_same}
+use Rattle.std.proofs.Common.{◌≡◌, ℕ, ◌+◌, ◌*◌, ◌/◌, ◌%◌, ◌^◌, ◌<◌, Bool, true, false, ◌&&◌, ◌||◌, eqb, ltb, not, ◌⊎◌, List, length, get_or, set, ⊎_elim, add-one, arith, get_or-set_other, get_or-set_same}
 use lib.Bits.{bit_or}
 use mir.Syntax.{w8}
-use Rattle.std.proofs.Math.Bool.{and-false}
-use Rattle.std.proofs.lemmas.Bool.{cases_eq, cases_Bool, le-ltb, and_left}
+use Rattle.std.proofs.lemmas.Bool.{cases_eq}
 use Rattle.std.proofs.lemmas.Nat.Bits.{bit_at_set_same, bit_at_set_other}
 use Rattle.std.proofs.lemmas.Bool.Decides.{nat_tests}
 use Rattle.shelves.specs.Shelves.{bit_of}
@@ -30,21 +29,12 @@ module _ (xs ys : List ℕ) (set : ℕ → Bool) (c : ℕ) (joined : Joined xs s
 
   -- at c nothing has changed yet
   at_c : bit_of ys c ≡ bit_of xs c
-  at_c = let j = joined c in let z : ltb c c ≡ false = le-ltb c c (omega arith) in let b = cases_Bool (bit_of xs c) in grind arith
-
-  count_next : (b : Bool) → new c ≡ b → count (c + 1) new ≡ cond b 1 0 + count c new
-  count_next b e = rw add-one (ap (λ x. cond x 1 0 + count c new) e)
+  at_c = grind (arith, nat_tests, joined c)
 
   -- the member c is put
   pub joined_put : (zs : List ℕ) → true ≡ set c → false ≡ bit_of ys c → ((d : ℕ) → bit_of zs d ≡ (eqb d c || bit_of ys d)) → Joined xs set (c + 1) zs × (count (c + 1) new ≡ 1 + count c new)
-  joined_put zs member absent put = (go, count_next true (ap₂ (λ x y. x && not y) (sym member) (sym at_c ∙ sym absent)))
-    where
-      go : Joined xs set (c + 1) zs
-      go d = let j = joined d in let p = put d in let b = cases_Bool (bit_of xs d) in let e = cases_eq d c in grind (arith, nat_tests)
+  joined_put zs member absent put = (λ d. grind (arith, nat_tests, joined d, put d), rw add-one (grind (arith, at_c)))
 
   -- c is no member, or was there already
   pub joined_kept : (false ≡ set c) ⊎ (true ≡ bit_of ys c) → Joined xs set (c + 1) ys × (count (c + 1) new ≡ count c new)
-  joined_kept kept = (go, count_next false (⊎_elim (λ e. and_left (set c) (not (bit_of xs c)) (sym e)) (λ e. ap (λ y. set c && not y) (sym (e ∙ at_c)) ∙ and-false (set c)) kept) ∙ zero-add (count c new))
-    where
-      go : Joined xs set (c + 1) ys
-      go d = let j = joined d in let b = cases_Bool (bit_of xs d) in let e = cases_eq d c in grind (arith, nat_tests)
+  joined_kept kept = (λ d. grind (arith, nat_tests, joined d), rw add-one (grind (arith, at_c)))
