@@ -2,9 +2,8 @@
 use Rattle.std.proofs.Common.{◌≡◌, ℕ, zero, suc, ◌+◌, ◌-◌, ◌*◌, ◌/◌, ◌%◌, ◌^◌, ◌<◌, ◌≤◌, true, false, List, [], ◌∷◌, length, get_or, sym, refl, ap, ◌∙◌, subst, mod-eq_of_lt, arith, lit<, pow_pos, pow_mono}
 use lib.Arith.{mod-mul}
 use lib.Pow.{pow-lt}
-use Rattle.std.proofs.lemmas.Bool.{eqb-true, eqb-false}
+use Rattle.std.proofs.lemmas.Bool.Decides.{nat_tests}
 use Rattle.model.specs.LeaveOut.{has}
-use Rattle.model.specs.Frames.{choose}
 use Rattle.counts.proofs.Entries.{choose_more}
 use Rattle.numbers.specs.Numbers.{count, among, before}
 use Rattle.numbers.proofs.Windows.{count_in, count_out, among_none, among_out, among_length, Window, window_whole, window_with, window_without, window_past}
@@ -17,19 +16,19 @@ module _ (v : ℕ) (h : v < 32) where
   up = omega arith
 
   pub count_up_in : (f : ℕ) → has f v ≡ true → count f (32 - v) v ≡ suc (count f (32 - (v + 1)) (v + 1))
-  count_up_in f e = ap (λ n. count f n v) to_go ∙ count_in f (32 - (v + 1)) v e ∙ ap (λ u. suc (count f (32 - (v + 1)) u)) up
+  count_up_in f e = grind (arith, to_go, up, count_in f (32 - (v + 1)) v e)
 
   pub count_up_out : (f : ℕ) → has f v ≡ false → count f (32 - v) v ≡ count f (32 - (v + 1)) (v + 1)
-  count_up_out f e = ap (λ n. count f n v) to_go ∙ count_out f (32 - (v + 1)) v e ∙ ap (λ u. count f (32 - (v + 1)) u) up
+  count_up_out f e = grind (arith, to_go, up, count_out f (32 - (v + 1)) v e)
 
   pub among_up_out : (c k : ℕ) → has c v ≡ false → among c (32 - v) v k ≡ among c (32 - (v + 1)) (v + 1) k
-  among_up_out c k e = ap (λ n. among c n v k) to_go ∙ among_out c (32 - (v + 1)) v k e ∙ ap (λ u. among c (32 - (v + 1)) u k) up
+  among_up_out c k e = grind (arith, to_go, up, among_out c (32 - (v + 1)) v k e)
 
   pub length_up : (c k : ℕ) → has c v ≡ true → length (among c (32 - v) v k) ≡ before (count c (32 - (v + 1)) (v + 1)) k + length (among c (32 - (v + 1)) (v + 1) k)
   length_up c zero e = omega (arith, among_length c (32 - v) v 0, among_length c (32 - (v + 1)) (v + 1) 0)
   length_up c (suc k) e =
       let more = count c (32 - (v + 1)) (v + 1) in
-      among_length c (32 - v) v (suc k) ∙ ap (λ a. length (choose a (suc k))) (count_up_in c e) ∙ choose_more more k ∙ ap (λ x. length (choose more k) + x) (sym (among_length c (32 - (v + 1)) (v + 1) (suc k)))
+      grind (arith, among_length c (32 - v) v (suc k), count_up_in c e, choose_more more k, among_length c (32 - (v + 1)) (v + 1) (suc k))
 
   pub pow_up : 2 ^ (v + 1) ≡ 2 * 2 ^ v
   pow_up = ap (λ u. 2 ^ u) (sym up) ∙ omega arith
@@ -46,12 +45,10 @@ module _ (v : ℕ) (h : v < 32) where
   bits f = ap (λ (x : ℕ). f % x) pow_up ∙ mod-mul f (lit< tt) (pow_pos v)
 
   low_in : (f : ℕ) → has f v ≡ true → f % 2 ^ v + 2 ^ v ≡ f % 2 ^ (v + 1)
-  low_in f e = let one : f / 2 ^ v % 2 ≡ 1 = eqb-true (f / 2 ^ v % 2) 1 e in sym (bits f ∙ ap (λ x. x * 2 ^ v + f % 2 ^ v) one ∙ omega arith)
+  low_in f e = grind (arith, nat_tests, bits f)
 
   low_out : (f : ℕ) → has f v ≡ false → f % 2 ^ v ≡ f % 2 ^ (v + 1)
-  low_out f e =
-      let none : f / 2 ^ v % 2 ≡ 0 = omega (arith, eqb-false (f / 2 ^ v % 2) 1 e) in
-      sym (bits f ∙ ap (λ x. x * 2 ^ v + f % 2 ^ v) none ∙ omega arith)
+  low_out f e = grind (arith, nat_tests, bits f)
 
   module _ (all : List ℕ) (c from : ℕ) where
     here : (k low : ℕ) → Window all (among c (32 - v) v k) from low → Window all (among c (suc (32 - (v + 1))) v k) from low
