@@ -12,12 +12,10 @@ use denote.Param.Members.{Mut}
 
 -- what holds of the item at a place holds of the number that the item is
 if_some : (P : ℕ → Type 0) (o : Option ℕ) (k : ℕ) → option_map (λ x. x) o ≡ Some k → IfSome o P → P k
-if_some P None k e h = absurd cc
-if_some P (Some x) k e h = let q : x ≡ k = cc in subst P q h
+if_some P o k e h = grind arith
 
 some_and : (P : ℕ → Type 0) (o : Option ℕ) (k : ℕ) → option_map (λ x. x) o ≡ Some k → IsSomeAnd o P → P k
-some_and P None k e h = absurd cc
-some_and P (Some x) k e h = let q : x ≡ k = cc in subst P q h
+some_and P o k e h = grind arith
 
 module _ {F : Type 0} {g : Mut F (Bor ℕ × Unit {0}) Bool} (s : RangeInclusive ℕ) (f : F) (Yes No : ℕ → Type 0) (fresh : range_inclusive_exhausted s ≡ false) (keeps : CallKeepsClosure g f)
     (yes : (x : ℕ) → CalledAt g f x true f → Yes x) (no : (x : ℕ) → CalledAt g f x false f → No x) where

@@ -37,12 +37,10 @@ module _ (ws : List ℕ) (v : ℕ) where
 -- ---- as iterators give it
 
 some_is : (o : Option ℕ) (y z : ℕ) → option_map (λ x. x) o ≡ Some y → IfSome o (λ x. x ≡ z) → o ≡ Some z
-some_is None y z e h = absurd cc
-some_is (Some x) y z e h = ap Some h
+some_is o y z e h = grind arith
 
 none_called : (Q : ℕ → Type 0) (o : Option ℕ) → ((x : ℕ) → Q x → ⊥) → IsSomeAnd o Q → ⊥
-none_called Q None never h = h
-none_called Q (Some x) never h = never x h
+none_called Q o never h = grind (arith, never)
 
 -- p is a run of `take_while` over q, q one of `take`, and r the run of successors behind it
 module _ {S T U F G H : Type 0} {a : S → Option ℕ → S → Type 0} {b : T → Option ℕ → T → Type 0} {d : U → Option ℕ → U → Type 0} {g : Mut F (Bor ℕ × Unit {0}) Bool} {s : Mut G (Bor ℕ × Unit {0}) (Option ℕ)} {o : Mut H (Bor ℕ × Unit {0}) Bool}
