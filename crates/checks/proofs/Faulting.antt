@@ -2,7 +2,7 @@
 use Rattle.std.proofs.Common.{◌≡◌, ℕ, ◌*◌, ◌<◌, ◌≤◌, true, false, List, length, Some, None, Option, arith}
 use Rattle.std.specs.Option.{MatchOption}
 use Rattle.model.specs.Tasks.{Task}
-use Rattle.model.specs.Orders.{Earlier, First, Least}
+use Rattle.model.specs.Orders.{First, Least}
 use Rattle.shelves.specs.Shelves.{bit_of, bytes_for}
 use Rattle.shelves.proofs.Bytes.{bit_within}
 use Rattle.checks.specs.declared.room.Memory.{Memory}
@@ -15,64 +15,37 @@ use Rattle.checks.specs.Wrong.{RecordsFit, PoolFits, MemoryWrong, bad_records, b
 
 module _ (M : Memory) where
   pub first_records : (RecordsFit M → ⊥) → First register_turn (MemoryWrong M) (BadMemory M.records)
-  first_records h = (bad_records h, go)
-    where
-      go : (e : RegisterFault) → MemoryWrong M e → Earlier (register_turn e) (register_turn (BadMemory M.records)) → ⊥
-      go _ (bad_records _) k = omega arith
-      go _ (bad_pool w _) k = h w
+  first_records h = (bad_records h, λ d wrong before. grind arith)
 
   pub first_pool_length : RecordsFit M → (PoolFits M → ⊥) → First register_turn (MemoryWrong M) (BadMemory M.pool)
-  first_pool_length h w = (bad_pool h w, go)
-    where
-      go : (e : RegisterFault) → MemoryWrong M e → Earlier (register_turn e) (register_turn (BadMemory M.pool)) → ⊥
-      go _ (bad_records v) k = v h
-      go _ (bad_pool _ _) k = omega arith
+  first_pool_length h w = (bad_pool h w, λ d wrong before. grind arith)
 
   pub memory_right : RecordsFit M → PoolFits M → (e : RegisterFault) → MemoryWrong M e → ⊥
-  memory_right h w _ (bad_records v) = v h
-  memory_right h w _ (bad_pool _ v) = v w
+  memory_right h w e v = grind arith
 
 -- ---- room
 
 module _ (records taken pool needed : ℕ) where
   pub first_record : records ≤ taken → First register_turn (RoomWrong records taken pool needed) (NoRecord records)
-  first_record h = (records_full h, go)
-    where
-      go : (e : RegisterFault) → RoomWrong records taken pool needed e → Earlier (register_turn e) (register_turn (NoRecord records)) → ⊥
-      go _ (records_full _) k = omega arith
-      go _ (pool_full _) k = omega arith
+  first_record h = (records_full h, λ d wrong before. grind arith)
 
   pub first_pool : taken < records → pool < needed → First register_turn (RoomWrong records taken pool needed) (PoolTooShort needed)
-  first_pool l h = (pool_full h, go)
-    where
-      go : (e : RegisterFault) → RoomWrong records taken pool needed e → Earlier (register_turn e) (register_turn (PoolTooShort needed)) → ⊥
-      go _ (records_full w) k = omega arith
-      go _ (pool_full _) k = omega arith
+  first_pool l h = (pool_full h, λ d wrong before. grind arith)
 
   pub room_right : taken < records → needed ≤ pool → (e : RegisterFault) → RoomWrong records taken pool needed e → ⊥
-  room_right l h _ (records_full w) = omega arith
-  room_right l h _ (pool_full w) = omega arith
+  room_right l h e w = grind arith
 
 -- ---- the task
 
 module _ (t : Task) (n : ℕ) (sizes : ℕ → ℕ) where
   pub first_count : (n ≡ t.n → ⊥) → First register_turn (TaskWrong t n sizes) OtherCount
-  first_count h = (recount h, go)
-    where
-      go : (e : RegisterFault) → TaskWrong t n sizes e → Earlier (register_turn e) (register_turn OtherCount) → ⊥
-      go _ (recount _) k = omega arith
-      go _ (resize v _ _) k = omega arith
+  first_count h = (recount h, λ d wrong before. grind arith)
 
   pub first_size : n ≡ t.n → (v : ℕ) → Least (λ u. (u < t.n) × (sizes u ≡ t.size u → ⊥)) (Some v) → First register_turn (TaskWrong t n sizes) (OtherSize v)
-  first_size e v least = (resize v least.0.0 least.0.1, go)
-    where
-      go : (d : RegisterFault) → TaskWrong t n sizes d → Earlier (register_turn d) (register_turn (OtherSize v)) → ⊥
-      go _ (recount w) k = w e
-      go _ (resize u l w) k = least.1 u (omega arith) (l, w)
+  first_size e v least = (resize v least.0.0 least.0.1, λ d wrong before. grind (arith, least.1))
 
   pub task_right : n ≡ t.n → Least (λ u. (u < t.n) × (sizes u ≡ t.size u → ⊥)) None → (e : RegisterFault) → TaskWrong t n sizes e → ⊥
-  task_right e none _ (recount w) = w e
-  task_right e none _ (resize u l w) = none u (l, w)
+  task_right e none d w = grind (arith, none)
 
 -- ---- the bytes of a claim
 
@@ -86,19 +59,10 @@ module _ (size : ℕ) (bytes : List ℕ) where
   spare_least (Some b) (h, l, e, first) = ((h, l, e), λ c k s. grind (arith, first c))
 
   pub first_length : (length bytes ≡ bytes_for size → ⊥) → First register_turn (BytesWrong size bytes) (WrongLength (length bytes))
-  first_length h = (misfit h, go)
-    where
-      go : (e : RegisterFault) → BytesWrong size bytes e → Earlier (register_turn e) (register_turn (WrongLength (length bytes))) → ⊥
-      go _ (misfit _) k = omega arith
-      go _ (spare b _ _) k = omega arith
+  first_length h = (misfit h, λ d wrong before. grind arith)
 
   pub first_spare : length bytes ≡ bytes_for size → (b : ℕ) → Least Spare (Some b) → First register_turn (BytesWrong size bytes) (SpareBit b)
-  first_spare e b least = (spare b least.0.0 (grind (arith, least)), go)
-    where
-      go : (d : RegisterFault) → BytesWrong size bytes d → Earlier (register_turn d) (register_turn (SpareBit b)) → ⊥
-      go _ (misfit w) k = w e
-      go _ (spare c l w) k = least.1 c (omega arith) (l, bit_within bytes c w, grind arith)
+  first_spare e b least = (spare b least.0.0 (grind (arith, least)), λ d wrong before. grind (arith, least.1, bit_within bytes))
 
   pub bytes_right : length bytes ≡ bytes_for size → Least Spare None → (e : RegisterFault) → BytesWrong size bytes e → ⊥
-  bytes_right e none _ (misfit w) = w e
-  bytes_right e none _ (spare c l w) = none c (l, bit_within bytes c w, grind arith)
+  bytes_right e none d w = grind (arith, none, bit_within bytes)
