@@ -1,5 +1,5 @@
 -- The list of all sets of k candidates has each of them, and is in the order of their ascending lists.
-use Rattle.std.proofs.Common.{◌≡◌, ℕ, zero, suc, ◌+◌, ◌-◌, ◌*◌, ◌/◌, ◌^◌, ◌<◌, ◌≤◌, min, Bool, cond, List, [], ◌∷◌, ◌++◌, map, sym, refl, ap, ◌∙◌, subst, mul_assoc, pow-suc, mul-add, arith}
+use Rattle.std.proofs.Common.{◌≡◌, ℕ, zero, suc, ◌+◌, ◌-◌, ◌*◌, ◌/◌, ◌^◌, ◌<◌, ◌≤◌, min, Bool, cond, List, [], ◌∷◌, map, sym, refl, ap, ◌∙◌, subst, mul_assoc, pow-suc, mul-add, arith}
 use mathlib.Core.List.{map-append}
 use native.Mathlib.Nat.{div-div-eq-div-mul}
 use Rattle.std.proofs.lemmas.Bool.Decides.{nat_tests}
@@ -41,10 +41,7 @@ among_moved c (suc n) v (suc k) =
     let even : among c n (suc v) (suc k) ≡ map (λ f. 2 ^ v * f) without =
     below (suc k) ∙ sym (map_same (λ f. f) (λ x. refl) (map (λ f. 2 ^ suc v * f) (pick q n (suc k))))
     ∙ maps_agree (λ f. f) (λ f. 2 ^ suc v * f) (λ f. 2 ^ v * f) (λ f. 2 * f) (up_even v) (pick q n (suc k)) in
-    ap (λ xs. cond b xs [] ++ among c n (suc v) (suc k)) odd
-    ∙ ap (λ xs. cond b (map (λ f. 2 ^ v * f) with) [] ++ xs) even
-    ∙ ap (λ xs. xs ++ map (λ f. 2 ^ v * f) without) (map_cond b (λ f. 2 ^ v * f) with)
-    ∙ sym (map-append (λ f. 2 ^ v * f) (cond b with []) without)
+    grind (arith, odd, even, map_cond b (λ f. 2 ^ v * f) with, map-append (λ f. 2 ^ v * f) (cond b with []) without)
   where
     up_even : (v f : ℕ) → 2 ^ suc v * f ≡ 2 ^ v * (2 * f)
     up_even v f = ap (λ (x : ℕ). x * f) (pow-suc 2 v) ∙ mul_assoc (2 ^ v) 2 f

@@ -36,13 +36,12 @@ pub among_length : (c n v k : ℕ) → length (among c n v k) ≡ length (choose
 unfolding among count
 among_length c n v zero = ap length (among_none c n v)
 among_length c zero v (suc k) = refl
-among_length c (suc n) v (suc k) = ⊎_elim
-    (λ e. ap length (among_in c n v k e)
-    ∙ length-append (map (λ f. 2 ^ v + f) (among c n (suc v) k)) (among c n (suc v) (suc k))
-    ∙ ap (λ x. x + length (among c n (suc v) (suc k))) (length-map (among c n (suc v) k) (λ f. 2 ^ v + f) ∙ among_length c n (suc v) k)
-    ∙ ap (λ x. length (choose (count c n (suc v)) k) + x) (among_length c n (suc v) (suc k))
-    ∙ sym (ap (λ a. length (choose a (suc k))) (count_in c n v e) ∙ choose_more (count c n (suc v)) k))
-    (λ e. ap length (among_out c n v (suc k) e) ∙ among_length c n (suc v) (suc k) ∙ sym (ap (λ a. length (choose a (suc k))) (count_out c n v e)))
+among_length c (suc n) v (suc k) =
+    let with = among_length c n (suc v) k in
+    let without = among_length c n (suc v) (suc k) in
+    ⊎_elim
+    (λ e. grind (arith, among_in c n v k e, count_in c n v e, with, without, choose_more (count c n (suc v)) k, length-append (map (λ f. 2 ^ v + f) (among c n (suc v) k)) (among c n (suc v) (suc k)), length-map (among c n (suc v) k) (λ f. 2 ^ v + f)))
+    (λ e. grind (arith, among_out c n v (suc k) e, count_out c n v e, without))
     (cases_Bool (has c v))
 
 -- of all sets, those from `from` on that have the variables of `low` and go on as in `rest`
