@@ -5,7 +5,7 @@ use Rattle.std.proofs.lemmas.List.{get_or_past}
 use Rattle.std.proofs.lemmas.List.FromFn.{length-map-range_with_len, get_or-map-range_with_len}
 use lib.Bits.{bit_or}
 use Rattle.std.specs.Int.{bit_at}
-use Rattle.std.proofs.lemmas.Bool.{cases_lt, cases_eq, cases_Bool, le-ltb}
+use Rattle.std.proofs.lemmas.Bool.{cases_lt, le-ltb}
 use Rattle.std.proofs.lemmas.Bool.Decides.{nat_tests}
 use Rattle.std.proofs.lemmas.Nat.Bits.{bit_at-zero, bit_at_or, bit_at-pow_same, bit_at-pow_other}
 use Rattle.model.specs.LeaveOut.{has}
@@ -32,15 +32,7 @@ byte_below set k (suc n) = bit_or (byte_below set k n) (cond (set (8 * k + n)) (
 
 -- one bit more
 next_bit : (byte n j : ℕ) (here there : Bool) → (j ≡ n → here ≡ there) → bit_at byte j ≡ cond (ltb j n && there) 1 0 → bit_at (bit_or byte (cond here (2 ^ n) 0)) j ≡ cond (ltb j (suc n) && there) 1 0
-next_bit byte n j here there same h =
-    let or = bit_at_or byte (cond here (2 ^ n) 0) j in
-    let one = bit_at-pow_same n in
-    let other = bit_at-pow_other n j in
-    let none = bit_at-zero j in
-    let a = cases_Bool here in
-    let b = cases_Bool there in
-    let e = cases_eq j n in
-    grind (arith, nat_tests)
+next_bit byte n j here there same h = grind (arith, nat_tests, bit_at_or byte (cond here (2 ^ n) 0) j, bit_at-pow_same n, bit_at-pow_other n j, bit_at-zero j)
 
 bit_below : (set : ℕ → Bool) (k n j : ℕ) → bit_at (byte_below set k n) j ≡ cond (ltb j n && set (8 * k + j)) 1 0
 bit_below set k zero j = bit_at-zero j ∙ sym (ap (λ b. cond (b && set (8 * k + j)) 1 0) (le-ltb j 0 (omega arith)))
@@ -50,10 +42,7 @@ abbrev byte_at : (ℕ → Bool) → ℕ → ℕ
 byte_at set k = byte_below set k 8
 
 byte_bit : (set : ℕ → Bool) (k i : ℕ) → i < 8 → has (byte_at set k) i ≡ set (8 * k + i)
-byte_bit set k i l =
-    let e = bit_below set k 8 i in
-    let b = cases_Bool (set (8 * k + i)) in
-    grind (arith, nat_tests)
+byte_bit set k i l = grind (arith, nat_tests, bit_below set k 8 i)
 
 -- ---- the bytes of a set
 

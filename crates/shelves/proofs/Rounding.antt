@@ -1,7 +1,8 @@
 -- A survey's rounds and a projection's best plan: there is one at most, and the rounds are below the frame's size.
 use Rattle.std.proofs.Common.{◌≡◌, ℕ, zero, suc, ◌<◌, ◌≤◌, true, false, eqb, List, [], ◌∷◌, length, sym, refl, ap, ◌∙◌, subst, ⊎_elim, arith}
 use Rattle.std.specs.List.{All, IsDistinct, list_any}
-use Rattle.std.proofs.lemmas.Bool.{false≢true, eqb-true, ne_eqb, or_cases}
+use Rattle.std.proofs.lemmas.Bool.{false≢true, ne_eqb}
+use Rattle.std.proofs.lemmas.Bool.Decides.{nat_tests}
 use Rattle.std.proofs.lemmas.List.Elements.{All-nil, All-cons, All-head, All-tail, All-weaker, recursion_from_All}
 use Rattle.std.proofs.lemmas.Map.Steps.{length-le_from_distinct_below}
 use Rattle.model.specs.Tasks.{Task, Position, Legal, Lawful, after}
@@ -77,10 +78,7 @@ module _ (t : Task) (law : Lawful t) (ss : List Shelf) (f : ℕ) where
   near_below k [] near c h = absurd (false≢true h)
   near_below k (x ∷ xs) near c h =
       let (j, q, l, e, fewest) = All-head (Near k) x xs near in
-      ⊎_elim
-      (λ same. subst (λ (z : ℕ). z < frame_size t f) (e ∙ sym (eqb-true c x same)) (code_below_size t f q fewest.legal))
-      (near_below k xs (All-tail (Near k) x xs near) c)
-      (or_cases (eqb c x) (list_any (eqb c) xs) h)
+      grind (arith, nat_tests, code_below_size t f q fewest.legal, near_below k xs (All-tail (Near k) x xs near) c)
 
   pub fewest_below : (k : ℕ) (q : Position) → Fewest k q → k < frame_size t f
   fewest_below k q h =
