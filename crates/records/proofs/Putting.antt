@@ -1,8 +1,7 @@
 -- Bits of bytes: what setting one changes, and a loop that adds the members of a set.
-use Rattle.std.proofs.Common.{◌≡◌, ℕ, ◌+◌, ◌*◌, ◌/◌, ◌%◌, ◌^◌, ◌<◌, Bool, true, false, ◌&&◌, ◌||◌, eqb, ltb, not, ◌⊎◌, List, length, get_or, set, ⊎_elim, add-one, arith, get_or-set_other, get_or-set_same}
+use Rattle.std.proofs.Common.{◌≡◌, ℕ, ◌+◌, ◌*◌, ◌/◌, ◌%◌, ◌^◌, ◌<◌, Bool, true, false, ◌&&◌, ◌||◌, eqb, ltb, not, ◌⊎◌, List, length, get_or, set, add-one, arith, get_or-set_other, get_or-set_same}
 use lib.Bits.{bit_or}
 use mir.Syntax.{w8}
-use Rattle.std.proofs.lemmas.Bool.{cases_eq}
 use Rattle.std.proofs.lemmas.Nat.Bits.{bit_at_set_same, bit_at_set_other}
 use Rattle.std.proofs.lemmas.Bool.Decides.{nat_tests}
 use Rattle.shelves.specs.Shelves.{bit_of}
@@ -12,11 +11,7 @@ pub put_bit : (xs : List ℕ) (c d : ℕ) → c / 8 < length xs → bit_of (set 
 put_bit xs c d h =
     let a = get_or xs (c / 8) 0 in
     let v = bit_or a (1 * 2 ^ (c % 8) % 2 ^ 8) in
-    let same = bit_at_set_same w8 a (c % 8) (omega arith) in
-    let other = bit_at_set_other w8 a (c % 8) (omega arith) (d % 8) in
-    let written = get_or-set_same xs (c / 8) v 0 h in
-    let kept = get_or-set_other xs (c / 8) (d / 8) v 0 in
-    ⊎_elim (λ e. rw e (grind (arith, nat_tests))) (λ n. let o = cases_eq (d / 8) (c / 8) in let p = cases_eq (d % 8) (c % 8) in grind (arith, nat_tests)) (cases_eq d c)
+    grind (arith, nat_tests, bit_at_set_same w8 a (c % 8), bit_at_set_other w8 a (c % 8) (omega arith) (d % 8), get_or-set_same xs (c / 8) v 0 h, get_or-set_other xs (c / 8) (d / 8) v 0)
 
 -- ---- the bytes ys are xs with the members of a set below c
 
