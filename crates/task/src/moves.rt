@@ -15,7 +15,14 @@ pub const MAX_VARIABLES: usize = 32;
 pub fn applies<S: TaskSource>(source: &S, o: usize, values: &[u16]) -> bool
     ensures { Decides result (Applies (S.TaskSource.task source.now) o (position values.now)) }
 {
-    (0..source.variables()).all(|v| source.needed(o, v).is_none_or(|x| word(values, v) == x))
+    (0..source.variables()).all(|v| has_needed(source, o, values, v))
+}
+
+// Whether the value of v that the operator o needs is present, if it needs one.
+fn has_needed<S: TaskSource>(source: &S, o: usize, values: &[u16], v: usize) -> bool
+    ensures { Decides result (Holds ((S.TaskSource.task source.now).needed o v) (position values.now v)) }
+{
+    source.needed(o, v).is_none_or(|x| word(values, v) == x)
 }
 
 // Sets the values that the operator o makes.
@@ -40,12 +47,26 @@ pub fn size_or_one<S: TaskSource>(source: &S, v: usize) -> u16
 pub fn start_position<S: TaskSource>(source: &S) -> [u16; MAX_VARIABLES]
     ensures { position result ≡ (S.TaskSource.task source.now).start }
 {
-    array::from_fn(|v| source.start(v).unwrap_or(0))
+    array::from_fn(|v| start_or_zero(source, v))
+}
+
+// The value of the variable v in the start position, and 0 where the task has no such variable.
+fn start_or_zero<S: TaskSource>(source: &S, v: usize) -> u16
+    ensures { result ≡ (S.TaskSource.task source.now).start v }
+{
+    source.start(v).unwrap_or(0)
 }
 
 // The lowest variable that misses its goal value, and none at a goal position.
 pub fn missed_goal<S: TaskSource>(source: &S, values: &[u16]) -> Option<usize>
     ensures { Least (λ v. Holds ((S.TaskSource.task source.now).goal v) (position values.now v) → ⊥) result }
 {
-    (0..source.variables()).find(|v| source.goal(*v).is_some_and(|x| word(values, *v) != x))
+    (0..source.variables()).find(|v| misses_goal(source, values, *v))
+}
+
+// Whether the goal wants another value of v than the one that is there.
+fn misses_goal<S: TaskSource>(source: &S, values: &[u16], v: usize) -> bool
+    ensures { Decides result (Holds ((S.TaskSource.task source.now).goal v) (position values.now v) → ⊥) }
+{
+    source.goal(v).is_some_and(|x| word(values, v) != x)
 }

@@ -3,7 +3,7 @@ use denote.Param.Members.{Mut}
 use Rattle.std.specs.Fn.{Called}
 use Rattle.std.specs.Array.{IsFromFnResultFrom}
 use Rattle.std.proofs.lemmas.Bool.{cases_eq}
-use Rattle.model.proofs.Positions.{start_all, start_told}
+use Rattle.model.proofs.Positions.{start_all}
 use Rattle.task.proofs.moves.start_position.Goals as goal
 
 -- what each call of a closure gives that no call changes, the array made by it has at each index
@@ -24,4 +24,4 @@ returns g c =
     let law = g.met.S.TaskSource.lawful s in
     let h = c.from_fn.ensures.items in
     start_all t law c.from_fn.result h.long
-    (λ v l. made_all _ _ (λ i y. y ≡ t.start i) (λ i y q k. search (rules, start_told t law i)) c.from_fn.result 0 32 h.each v (omega arith) l)
+    (λ v l. made_all _ _ (λ i y. y ≡ t.start i) (λ i y q k. search rules) c.from_fn.result 0 32 h.each v (omega arith) l)
