@@ -1,9 +1,8 @@
 -- What is wrong with a list of operators, and what of it is tried first.
-use Rattle.std.proofs.Common.{◌≡◌, ℕ, ◌+◌, ◌<◌, ◌≤◌, false, List, ◌∷◌, ◌++◌, length, get_or, take, drop, Decides, sym, refl, ap, ◌∙◌, subst, inl, inr, arith, lit<, lit≤}
+use Rattle.std.proofs.Common.{◌≡◌, ℕ, ◌+◌, ◌<◌, ◌≤◌, false, List, [], ◌∷◌, ◌++◌, length, get_or, take, drop, Decides, sym, ap, ◌∙◌, subst, inl, inr, arith, lit<, lit≤}
 use Rattle.std.proofs.lemmas.Bool.{false≢true}
-use Rattle.std.proofs.lemmas.List.{take-append-drop, take-take, take_at, take_more, drop_more, length-take-le, get_or-take}
-use Rattle.std.proofs.Math.Seq.{get_or-append_seam}
-use Rattle.model.specs.Tasks.{Task, Position, Lawful, Holds, Applies, Leads, position, advanced}
+use Rattle.std.proofs.lemmas.List.{take-append-drop, take_more, drop_more, length-take-le}
+use Rattle.model.specs.Tasks.{Task, Position, Lawful, Holds, Applies, after, Leads, position, advanced}
 use Rattle.model.specs.Orders.{Earlier, First}
 use Rattle.model.proofs.Leading.{leads_once, leads_known, leads_more, leads_next}
 use Rattle.model.proofs.Positions.{advanced_position}
@@ -18,11 +17,11 @@ use Rattle.task.specs.Plans.{FollowWrong, long, unknown, blocked, GoalWrong, mis
 followed_right : (t : Task) (os : List ℕ) → Followed t os → (e : PlanFault) → FollowWrong t os e → ⊥
 followed_right t os (short, (q, l)) e (long h) = omega arith
 followed_right t os (short, (q, l)) e (unknown i h k) = omega (arith, leads_known t os t.start q l i h)
-followed_right t os (short, (q, l)) e (blocked before rest o p s h k) = k (leads_next t before rest o t.start q p (subst (λ xs. Leads t xs t.start q) s l) h)
+followed_right t os (short, (q, l)) e (blocked before rest o p s h k) = grind (arith, leads_next t before rest o t.start q p)
 
 accepted_right : (t : Task) (os : List ℕ) → Accepted t os → (e : PlanFault) → PlanWrong t os e → ⊥
 accepted_right t os (short, (q, l, g)) e (inl w) = followed_right t os (short, (q, l)) e w
-accepted_right t os (short, (q, l, g)) e (inr (misses v p m k)) = k (subst (λ x. Holds (t.goal v) (x v)) (leads_once t os t.start q p l m) (g v))
+accepted_right t os (short, (q, l, g)) e (inr (misses v p m k)) = grind (arith, leads_once t os t.start q p, g v)
 
 -- so where something is wrong, the list is not followed, and not accepted
 pub not_followed : (t : Task) (os : List ℕ) (e : PlanFault) → FollowWrong t os e → Decides false (Followed t os)
@@ -34,45 +33,31 @@ not_accepted t os e w = (λ z. absurd (false≢true z), λ h. absurd (accepted_r
 -- ---- the first of what is wrong with following
 
 pub first_long : (t : Task) (os : List ℕ) → 16383 < length os → First plan_turn (FollowWrong t os) TooLong
-first_long t os h = (long h, go)
-  where
-    go : (d : PlanFault) → FollowWrong t os d → Earlier (plan_turn d) (plan_turn TooLong) → ⊥
-    go d (long l) k = omega arith
-    go d (unknown i l x) k = omega arith
-    go d (blocked before rest o p q l x) k = omega arith
+first_long t os h = (long h, λ d w k. grind arith)
 
 pub first_unknown : (t : Task) (os : List ℕ) (i : ℕ) → length os ≤ 16383 → i < length os → t.m ≤ get_or os i 0 → ((j : ℕ) → j < i → (j < length os) × (t.m ≤ get_or os j 0) → ⊥) → First plan_turn (FollowWrong t os) (NoSuchOperator i)
-first_unknown t os i fit l h low = (unknown i l h, go)
-  where
-    go : (d : PlanFault) → FollowWrong t os d → Earlier (plan_turn d) (plan_turn (NoSuchOperator i)) → ⊥
-    go d (long x) k = omega arith
-    go d (unknown j m x) k = low j (omega arith) (m, x)
-    go d (blocked before rest o p q m x) k = omega arith
-
--- a list about one of its places
-parted : (xs : List ℕ) (i : ℕ) → i < length xs → xs ≡ take i xs ++ (get_or xs i 0 ∷ drop (i + 1) xs)
-parted xs i l = sym (take-append-drop i xs) ∙ ap (λ ys. take i xs ++ ys) (drop_more xs i 0 l)
+first_unknown t os i fit l h low = (unknown i l h, λ d w k. grind (arith, low))
 
 -- operators that apply in turn are not blocked before their end
-unblocked : (t : Task) (xs ys : List ℕ) (u i : ℕ) (p q r : Position) → length xs < i → i ≤ length (xs ++ (u ∷ ys)) → Leads t (take i (xs ++ (u ∷ ys))) p q → Leads t xs p r → Applies t u r
-unblocked t xs ys u i p q r h fit l m =
-    let os = xs ++ (u ∷ ys) in
-    let j = length xs in
-    let le : j ≤ i = omega arith in
-    let e = rw (take-take j i os le, take_at xs (u ∷ ys) j refl, get_or-take i os j 0 h, get_or-append_seam xs u ys 0) at (parted (take i os) j (omega (arith, length-take-le i os fit))) in
-    leads_next t xs (drop (j + 1) (take i os)) u p q r (subst (λ zs. Leads t zs p q) e l) m
+unblocked : (t : Task) (before rest xs ys : List ℕ) (o u : ℕ) (p q r : Position) → before ++ (o ∷ rest) ≡ xs ++ (u ∷ ys) → Leads t before p q → Leads t xs p r → length xs < length before → Applies t u r
+unblocked t [] rest xs ys o u p q r e l m h = absurd (omega arith)
+unblocked t (b ∷ before) rest [] ys o u p q r e l m h = grind arith
+unblocked t (b ∷ before) rest (x ∷ xs) ys o u p q r e l m h = grind (arith, unblocked t before rest xs ys o u (after t b p) q r)
 
 module _ (t : Task) (os : List ℕ) (fit : length os ≤ 16383) (known : (i : ℕ) → (i < length os) × (t.m ≤ get_or os i 0) → ⊥) where
   pub first_blocked : (i : ℕ) (p : Position) → i < length os → Leads t (take i os) t.start p → (Applies t (get_or os i 0) p → ⊥) → First plan_turn (FollowWrong t os) (DoesNotApply i)
-  first_blocked i p l reached stuck = (subst (λ j. FollowWrong t os (DoesNotApply j)) count (blocked (take i os) (drop (i + 1) os) (get_or os i 0) p (parted os i l) reached stuck), go)
+  first_blocked i p l reached stuck = (subst (λ j. FollowWrong t os (DoesNotApply j)) count (blocked (take i os) (drop (i + 1) os) (get_or os i 0) p split reached stuck), go)
     where
       count : length (take i os) ≡ i
       count = length-take-le i os (omega arith)
 
+      split : os ≡ take i os ++ (get_or os i 0 ∷ drop (i + 1) os)
+      split = sym (take-append-drop i os) ∙ ap (λ xs. take i os ++ xs) (drop_more os i 0 l)
+
       go : (d : PlanFault) → FollowWrong t os d → Earlier (plan_turn d) (plan_turn (DoesNotApply i)) → ⊥
       go d (long x) k = omega arith
       go d (unknown j m x) k = known j (m, x)
-      go d (blocked xs ys u r q m x) k = x (unblocked t xs ys u i t.start p r (omega arith) (subst (λ zs. i ≤ length zs) q (omega arith)) (subst (λ zs. Leads t (take i zs) t.start p) q reached) m)
+      go d (blocked xs ys u r q m x) k = x (unblocked t (take i os) (drop (i + 1) os) xs ys (get_or os i 0) u t.start p r (sym split ∙ q) reached m (omega (arith, count, k)))
 
 -- ---- one operator more
 
@@ -99,4 +84,4 @@ first_missed t os v q fit l h low = (inr (misses v q l h), go)
   where
     go : (d : PlanFault) → PlanWrong t os d → Earlier (plan_turn d) (plan_turn (MissesGoal v)) → ⊥
     go d (inl w) k = followed_right t os (fit, (q, l)) d w
-    go d (inr (misses u p m x)) k = low u (omega arith) (λ y. x (subst (λ r. Holds (t.goal u) (r u)) (leads_once t os t.start q p l m) y))
+    go d (inr (misses u p m x)) k = grind (arith, low u, leads_once t os t.start q p)
