@@ -1,17 +1,16 @@
 -- Operators and goals by the variables of a frame alone.
-use Rattle.std.proofs.Common.{◌≡◌, ℕ, zero, suc, ◌+◌, ◌*◌, ◌/◌, ◌%◌, ◌<◌, ◌≤◌, Bool, true, false, Decides, cond, List, Some, None, Option, unwrap_or, refl, ap, ◌∙◌, ⊎_elim, arith}
+use Rattle.std.proofs.Common.{◌≡◌, ℕ, zero, suc, ◌<◌, ◌≤◌, Bool, true, false, Decides, cond, List, Some, None, Option, unwrap_or, refl, ⊎_elim, arith}
 use Rattle.std.specs.Option.{MatchOption}
 use Rattle.std.specs.Fn.{Called, Mut}
 use Rattle.std.specs.Iterator.{YieldsThen}
 use Rattle.std.specs.List.{FoldsTo}
 use Rattle.std.specs.declared.ops.Range.{Range}
 use Rattle.std.proofs.iter.Yields.{nat_range_steps}
-use Rattle.std.proofs.lemmas.Bool.{cases_lt, cond-false}
+use Rattle.std.proofs.lemmas.Bool.{cases_lt}
 use Rattle.model.specs.Tasks.{Position, Holds, put}
 use Rattle.model.specs.LeaveOut.{has}
-use Rattle.model.specs.Frames.{width_by, code_by, values_by}
+use Rattle.model.specs.Frames.{code_by, values_by}
 use Rattle.model.proofs.Masks.{has_beyond}
-use Rattle.model.proofs.Options.{holds_none}
 use Rattle.frame.specs.declared.frame.Frame.{Frame}
 use Rattle.frame.specs.Held.{size_in}
 use Rattle.frame.proofs.Asking.{all_decided}
@@ -19,7 +18,7 @@ use Rattle.frame.proofs.Asking.{all_decided}
 module _ (f : Frame) where
   -- nothing is wanted of a variable past the frame's
   past : (want : ℕ → Option ℕ) (p : Position) (v : ℕ) → f.n ≤ v → Holds (cond (has f.mask v) (want v) None) (p v)
-  past want p v l = holds_none (cond (has f.mask v) (want v) None) (p v) (cond-false (has f.mask v) (want v) None (has_beyond f.mask f.n v f.legal l))
+  past want p v l = grind (arith, has_beyond f.mask f.n v f.legal)
 
   -- what `all` answers over the frame's variables of what is wanted
   pub all_hold : {F : Type 0} {g : Mut F (ℕ × Unit {0}) Bool} {u : Range ℕ} {k : F} (want : ℕ → Option ℕ) (p : Position) (r : Bool)
@@ -31,14 +30,12 @@ module _ (f : Frame) where
 
   -- a variable past the frame's has the value 0
   pub values_past : (c v : ℕ) → f.n ≤ v → values_by (size_in f.sizes) f.mask c v ≡ 0
-  values_past c v l = cond-false (has f.mask v) (c / width_by (size_in f.sizes) f.mask v % size_in f.sizes v) 0 (has_beyond f.mask f.n v f.legal l)
+  values_past c v l = grind (arith, has_beyond f.mask f.n v f.legal)
 
 -- a code depends on the values of the variables that it counts alone
 pub code_same : (size : ℕ → ℕ) (mask : ℕ) (p q : Position) (n : ℕ) → ((v : ℕ) → v < n → p v ≡ q v) → code_by size mask p n ≡ code_by size mask q n
 code_same size mask p q zero e = refl
-code_same size mask p q (suc n) e =
-    ap (λ c. c + cond (has mask n) (p n * width_by size mask n) 0) (code_same size mask p q n (λ v h. e v (omega arith)))
-    ∙ ap (λ x. code_by size mask q n + cond (has mask n) (x * width_by size mask n) 0) (e n (omega arith))
+code_same size mask p q (suc n) e = grind (arith, e n, code_same size mask p q n)
 
 pub put_value : (w : Option ℕ) (x : ℕ) → unwrap_or w x ≡ put w x
 put_value None x = refl

@@ -16,7 +16,11 @@ const LIMIT: u32 = 16_384;
 pub fn sizes_of<S: TaskSource>(source: &S) -> [u16; MAX_VARIABLES]
     ensures { size_in result ≡ (S.TaskSource.task source.now).size }
 {
-    array::from_fn(|v| size_or_one(source, v))
+    array::from_fn(
+        |v| -> u16
+            ensures { result ≡ (S.TaskSource.task source.entry.now).size v }
+        { size_or_one(source, v) },
+    )
 }
 
 // The stride of each of n variables, the product of the sizes of the mask's lower variables, and 1 past them; and the product of all of

@@ -24,7 +24,14 @@ impl Frame {
     pub fn applies<S: TaskSource>(&self, source: &S, o: usize, c: usize) -> bool
         ensures { Decides result (Applies (onto self.now.mask (S.TaskSource.task source.now)) o (values_of self.now c)) }
     {
-        (0..self.n).all(|v| self.holds(c, v, source.needed(o, v)))
+        (0..self.n).all(|v| self.has_needed(source, o, c, v))
+    }
+
+    // Whether the value of v that the operator o needs is there at the code c, if v is in the frame and one is needed.
+    fn has_needed<S: TaskSource>(&self, source: &S, o: usize, c: usize, v: usize) -> bool
+        ensures { Decides result (Holds ((onto self.now.mask (S.TaskSource.task source.now)).needed o v) (values_of self.now c v)) }
+    {
+        self.holds(c, v, source.needed(o, v))
     }
 
     // The code of what the operator o makes of the code c.
