@@ -1,7 +1,8 @@
 -- Shelves that lie one after the other in the pool, and what writing the bytes of one leaves of the others.
-use Rattle.std.proofs.Common.{◌≡◌, ℕ, zero, suc, ◌+◌, ◌-◌, ◌<◌, ◌≤◌, Bool, true, false, cond, ◌||◌, eqb, List, [], ◌∷◌, length, get_or, take, drop, sym, refl, ap, ◌∙◌, subst, arith}
+use Rattle.std.proofs.Common.{◌≡◌, ℕ, zero, suc, ◌+◌, ◌-◌, ◌<◌, ◌≤◌, Bool, true, ◌||◌, eqb, List, [], ◌∷◌, length, get_or, take, drop, sym, refl, ap, ◌∙◌, subst, arith}
 use mathlib.Core.Path.{fun_ext}
 use borrow.Rule.Slice.PartMut.{put_mid}
+use Rattle.std.proofs.lemmas.Bool.{cond-true}
 use Rattle.std.proofs.lemmas.List.{get_or-take, take-take, length-take-le}
 use Rattle.std.proofs.lemmas.Slice.{between_is, between-put_mid, take-put_mid_below, drop-put_mid}
 use Rattle.shelves.specs.Shelves.{bit_of, bytes_for, place}
@@ -73,19 +74,13 @@ module _ (a k : ℕ) (pool ys : List ℕ) (inside : a + k ≤ length pool) (long
   pub shelves_joined : (f : ℕ) (set : ℕ → Bool) (at : ℕ) (rs : List Shelf) → Chained at rs → (i : ℕ) (x : Shelf) → place (shelves_of pool rs) f ≡ i → i < length rs → x ≡ get_or rs i x
       → x.at ≡ a → bytes_for x.frame.size ≡ k → ((c : ℕ) → bit_of ys c ≡ (bit_of (bytes_of pool x) c || set c)) → shelves_of written rs ≡ joined (shelves_of pool rs) f set
   shelves_joined f set at [] c i x p h e ea ek b = absurd (omega arith)
-  shelves_joined f set at (r ∷ rs) c i x p h e ea ek b =
-      go (eqb r.frame.mask f) i p h e (λ i p h e. shelves_joined f set (at + bytes_for r.frame.size) rs c.1 i x p h e ea ek b)
-    where
-      go : (t : Bool) (i : ℕ) → cond t 0 (suc (place (shelves_of pool rs) f)) ≡ i → i < suc (length rs) → x ≡ get_or (r ∷ rs) i x
-          → ((i : ℕ) → place (shelves_of pool rs) f ≡ i → i < length rs → x ≡ get_or rs i x → shelves_of written rs ≡ joined (shelves_of pool rs) f set)
-          → shelves_of written (r ∷ rs) ≡ cond t (record { frame = r.frame.mask; bits = λ c. bit_of (bytes_of pool r) c || set c } ∷ shelves_of pool rs) (shelf_of pool r ∷ joined (shelves_of pool rs) f set)
-      go true zero p h e later =
-          let ra : r.at ≡ a = sym (ap (λ (y : Shelf). y.at) e) ∙ ea in
-          let rk : bytes_for r.frame.size ≡ k = sym (ap (λ (y : Shelf). bytes_for y.frame.size) e) ∙ ek in
-          let rb : (c : ℕ) → bit_of ys c ≡ (bit_of (bytes_of pool r) c || set c) = subst (λ (y : Shelf). (c : ℕ) → bit_of ys c ≡ (bit_of (bytes_of pool y) c || set c)) e b in
-          λ j. record { frame = r.frame.mask; bits = bits_written r set ra rk rb j } ∷ shelves_above (at + bytes_for r.frame.size) rs c.1 (omega (arith, c.0)) j
-      go true (suc i) p h e later = absurd (omega arith)
-      go false zero p h e later = absurd (omega arith)
-      go false (suc i) p h e later =
-          let l = chained_least (at + bytes_for r.frame.size) rs c.1 i x (omega arith) e in
-          λ j. record { frame = r.frame.mask; bits = bit_of (window_below r.at (bytes_for r.frame.size) (omega (arith, c.0)) j) } ∷ later i (omega arith) (omega arith) e j
+  shelves_joined f set at (r ∷ rs) c zero x p h e ea ek b =
+      let bits = subst (λ (y : Shelf). bit_of (bytes_of written y) ≡ (λ c. bit_of (bytes_of pool y) c || set c)) e (bits_written x set ea ek b) in
+      let same : eqb r.frame.mask f ≡ true = grind arith in
+      let above = shelves_above (at + bytes_for r.frame.size) rs c.1 (omega (arith, ap (λ (y : Shelf). y.at) e, ap (λ (y : Shelf). bytes_for y.frame.size) e, c.0)) in
+      (λ j. record { frame = r.frame.mask; bits = bits j } ∷ above j)
+      ∙ sym (cond-true (eqb r.frame.mask f) (record { frame = r.frame.mask; bits = λ c. bit_of (bytes_of pool r) c || set c } ∷ shelves_of pool rs) (shelf_of pool r ∷ joined (shelves_of pool rs) f set) same)
+  shelves_joined f set at (r ∷ rs) c (suc i) x p h e ea ek b =
+      let least = chained_least (at + bytes_for r.frame.size) rs c.1 i x (omega arith) e in
+      let below = window_below r.at (bytes_for r.frame.size) (omega (arith, c.0)) in
+      grind (arith, shelves_joined f set (at + bytes_for r.frame.size) rs c.1 i x)
