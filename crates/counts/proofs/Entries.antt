@@ -21,7 +21,9 @@ other_entry [] above k i t h = absurd (omega arith)
 other_entry (x ∷ xs) [] k i t h = absurd cc
 other_entry (x ∷ xs) (y ∷ []) k i t h = absurd cc
 other_entry (x ∷ xs) (y ∷ z ∷ above) k zero t h = grind (arith, nat_tests)
-other_entry (x ∷ xs) (y ∷ z ∷ above) k (suc i) t h = let q : suc (i + 1) ≡ suc i + 1 = omega arith in grind (arith, nat_tests, other_entry xs (z ∷ above) (suc k) i)
+other_entry (x ∷ xs) (y ∷ z ∷ above) k (suc i) t h =
+    let q : suc (i + 1) ≡ suc i + 1 = omega arith in
+    grind (arith, nat_tests, other_entry xs (z ∷ above) (suc k) i)
 
 module _ (table : List ℕ) (long : length table ≡ 1089) (t : pascal table ≡ true) where
   parts : (first_row 0 (take 33 table) ≡ true) × (other_rows 33 (drop 33 table) (0 ∷ table) ≡ true)

@@ -39,8 +39,11 @@ among_length c zero v (suc k) = refl
 among_length c (suc n) v (suc k) =
     let with = among_length c n (suc v) k in
     let without = among_length c n (suc v) (suc k) in
+    let more = choose_more (count c n (suc v)) k in
+    let both = length-append (map (λ f. 2 ^ v + f) (among c n (suc v) k)) (among c n (suc v) (suc k)) in
+    let moved = length-map (among c n (suc v) k) (λ f. 2 ^ v + f) in
     ⊎_elim
-    (λ e. grind (arith, among_in c n v k e, count_in c n v e, with, without, choose_more (count c n (suc v)) k, length-append (map (λ f. 2 ^ v + f) (among c n (suc v) k)) (among c n (suc v) (suc k)), length-map (among c n (suc v) k) (λ f. 2 ^ v + f)))
+    (λ e. grind (arith, among_in c n v k e, count_in c n v e, with, without, more, both, moved))
     (λ e. grind (arith, among_out c n v (suc k) e, count_out c n v e, without))
     (cases_Bool (has c v))
 

@@ -75,11 +75,14 @@ module _ (a k : ℕ) (pool ys : List ℕ) (inside : a + k ≤ length pool) (long
       → x.at ≡ a → bytes_for x.frame.size ≡ k → ((c : ℕ) → bit_of ys c ≡ (bit_of (bytes_of pool x) c || set c)) → shelves_of written rs ≡ joined (shelves_of pool rs) f set
   shelves_joined f set at [] c i x p h e ea ek b = absurd (omega arith)
   shelves_joined f set at (r ∷ rs) c zero x p h e ea ek b =
-      let bits = subst (λ (y : Shelf). bit_of (bytes_of written y) ≡ (λ c. bit_of (bytes_of pool y) c || set c)) e (bits_written x set ea ek b) in
+      let Bits : Shelf → Type 0 = λ y. bit_of (bytes_of written y) ≡ (λ c. bit_of (bytes_of pool y) c || set c) in
+      let bits = subst Bits e (bits_written x set ea ek b) in
       let same : eqb r.frame.mask f ≡ true = grind arith in
-      let above = shelves_above (at + bytes_for r.frame.size) rs c.1 (omega (arith, ap (λ (y : Shelf). y.at) e, ap (λ (y : Shelf). bytes_for y.frame.size) e, c.0)) in
+      let start = ap (λ (y : Shelf). y.at) e in
+      let size = ap (λ (y : Shelf). bytes_for y.frame.size) e in
+      let above = shelves_above (at + bytes_for r.frame.size) rs c.1 (omega (arith, start, size, c.0)) in
       (λ j. record { frame = r.frame.mask; bits = bits j } ∷ above j)
-      ∙ sym (cond-true (eqb r.frame.mask f) (record { frame = r.frame.mask; bits = λ c. bit_of (bytes_of pool r) c || set c } ∷ shelves_of pool rs) (shelf_of pool r ∷ joined (shelves_of pool rs) f set) same)
+      ∙ sym (cond-true (eqb r.frame.mask f) _ (shelf_of pool r ∷ joined (shelves_of pool rs) f set) same)
   shelves_joined f set at (r ∷ rs) c (suc i) x p h e ea ek b =
       let least = chained_least (at + bytes_for r.frame.size) rs c.1 i x (omega arith) e in
       let below = window_below r.at (bytes_for r.frame.size) (omega (arith, c.0)) in

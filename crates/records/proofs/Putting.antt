@@ -11,7 +11,9 @@ pub put_bit : (xs : List ℕ) (c d : ℕ) → c / 8 < length xs → bit_of (set 
 put_bit xs c d h =
     let a = get_or xs (c / 8) 0 in
     let v = bit_or a (1 * 2 ^ (c % 8) % 2 ^ 8) in
-    grind (arith, nat_tests, bit_at_set_same w8 a (c % 8), bit_at_set_other w8 a (c % 8) (omega arith) (d % 8), get_or-set_same xs (c / 8) v 0 h, get_or-set_other xs (c / 8) (d / 8) v 0)
+    let same = bit_at_set_same w8 a (c % 8) in
+    let other = bit_at_set_other w8 a (c % 8) (omega arith) (d % 8) in
+    grind (arith, nat_tests, same, other, get_or-set_same xs (c / 8) v 0 h, get_or-set_other xs (c / 8) (d / 8) v 0)
 
 -- ---- the bytes ys are xs with the members of a set below c
 

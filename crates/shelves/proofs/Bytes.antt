@@ -32,7 +32,8 @@ byte_below set k (suc n) = bit_or (byte_below set k n) (cond (set (8 * k + n)) (
 
 -- one bit more
 next_bit : (byte n j : ℕ) (here there : Bool) → (j ≡ n → here ≡ there) → bit_at byte j ≡ cond (ltb j n && there) 1 0 → bit_at (bit_or byte (cond here (2 ^ n) 0)) j ≡ cond (ltb j (suc n) && there) 1 0
-next_bit byte n j here there same h = grind (arith, nat_tests, bit_at_or byte (cond here (2 ^ n) 0) j, bit_at-pow_same n, bit_at-pow_other n j, bit_at-zero j)
+next_bit byte n j here there same h =
+    grind (arith, nat_tests, bit_at_or byte (cond here (2 ^ n) 0) j, bit_at-pow_same n, bit_at-pow_other n j, bit_at-zero j)
 
 bit_below : (set : ℕ → Bool) (k n j : ℕ) → bit_at (byte_below set k n) j ≡ cond (ltb j n && set (8 * k + j)) 1 0
 bit_below set k zero j = bit_at-zero j ∙ sym (ap (λ b. cond (b && set (8 * k + j)) 1 0) (le-ltb j 0 (omega arith)))

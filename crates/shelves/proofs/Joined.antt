@@ -37,7 +37,8 @@ each_joined P union (s ∷ ss) f bits e h = grind (arith, nat_tests, union s.fra
 
 pub joined_apart : (ss : List Shelf) (f : ℕ) (bits : ℕ → Bool) → Apart ss → Apart (joined ss f bits)
 joined_apart [] f bits a = (tt, tt)
-joined_apart (s ∷ ss) f bits a = grind (arith, nat_tests, each_joined (λ g x. g ≡ s.frame → ⊥) (λ g x y h k. h) ss f bits a.0, joined_apart ss f bits)
+joined_apart (s ∷ ss) f bits a =
+    grind (arith, nat_tests, each_joined (λ g x. g ≡ s.frame → ⊥) (λ g x y h k. h) ss f bits a.0, joined_apart ss f bits)
 
 -- ---- the list itself
 
@@ -51,7 +52,8 @@ pub joined_at : (d : Shelf) (ss : List Shelf) (f : ℕ) (bits : ℕ → Bool) (i
     → (joined ss f bits ≡ set ss i (shelf (get_or ss i d).frame (λ c. (get_or ss i d).bits c || bits c))) × (place ss f ≡ i)
 joined_at d [] f bits i h e first = absurd (omega arith)
 joined_at d (s ∷ ss) f bits zero h e first = grind (arith, nat_tests)
-joined_at d (s ∷ ss) f bits (suc i) h e first = grind (arith, nat_tests, first 0, joined_at d ss f bits i (omega arith) e (λ k l x. first (suc k) (omega arith) x))
+joined_at d (s ∷ ss) f bits (suc i) h e first =
+    grind (arith, nat_tests, first 0, joined_at d ss f bits i (omega arith) e (λ k l x. first (suc k) (omega arith) x))
 
 -- ---- the bits of a frame's shelf, and the bytes that all take
 

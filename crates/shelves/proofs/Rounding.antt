@@ -66,11 +66,14 @@ module _ (t : Task) (law : Lawful t) (ss : List Shelf) (f : ℕ) where
   codes zero q h = (code t f q ∷ [], refl, All-cons (Near 0) (code t f q) [] (0, q, omega arith, refl, h) (All-nil (Near 0)), (tt, tt))
   codes (suc k) q h =
       let p = next k q h in
-      let (xs, l, near, distinct) = codes k p.0 p.1 in (
+      let (xs, l, near, distinct) = codes k p.0 p.1 in
+      let further = All-weaker (Near k) (Near (suc k)) (λ c x. (x.0, x.1, omega (arith, x.2), x.3, x.4)) xs near in
+      let other : (c : ℕ) → Near k c → eqb (code t f q) c ≡ false = λ c x. ne_eqb (code t f q) c (λ e. apart k x.0 q x.1 x.2 h x.4 (e ∙ sym x.3)) in
+      let new = All-weaker (Near k) (λ c. eqb (code t f q) c ≡ false) other xs near in (
         code t f q ∷ xs,
         ap suc l,
-        All-cons (Near (suc k)) (code t f q) xs (suc k, q, omega arith, refl, h) (All-weaker (Near k) (Near (suc k)) (λ c x. (x.0, x.1, omega (arith, x.2), x.3, x.4)) xs near),
-        (recursion_from_All (λ y. eqb (code t f q) y ≡ false) xs (All-weaker (Near k) (λ y. eqb (code t f q) y ≡ false) (λ c x. ne_eqb (code t f q) c (λ e. apart k x.0 q x.1 x.2 h x.4 (e ∙ sym x.3))) xs near), distinct),
+        All-cons (Near (suc k)) (code t f q) xs (suc k, q, omega arith, refl, h) further,
+        (recursion_from_All (λ c. eqb (code t f q) c ≡ false) xs new, distinct),
       )
 
   -- each of them is below the frame's size
