@@ -24,7 +24,8 @@ module _ (t : Task) (f : ℕ) (law : Lawful t) where
   covered_hopeless [] sure p h c = absurd c
   covered_hopeless (s ∷ ss) sure p h c = ⊎_elim
       (λ (here : T (strictly_inside s.frame f) × T (s.bits (code t s.frame p))).
-      sure_hopeless t s sure.0 (onto f t) (leave_out_lawful f t law) (leave_more_out s.frame f t (inside_strictly s.frame f here.0)) p h here.1)
+      let more = leave_more_out s.frame f t (inside_strictly s.frame f here.0) in
+      sure_hopeless t s sure.0 (onto f t) (leave_out_lawful f t law) more p h here.1)
       (λ there. covered_hopeless ss sure.1 p h there)
       (grind arith)
 

@@ -24,8 +24,9 @@ module _ (t : Task) (law : Lawful t) (ss : List Shelf) (f : ℕ) where
         (λ g. m.1 [] (m.0, g)),
         λ o l a.
             let q : Position = after (onto f t) o p in
+            let legal : Legal (onto f t) q = after_legal (onto f t) (leave_out_lawful f t law) o p h in
             ⊎_elim inr
-            (λ (free : T (not (covered t ss f q))). inl ((s q (after_legal (onto f t) (leave_out_lawful f t law) o p h)).1 (free, λ os r. m.1 (o ∷ os) (m.0, l, a, r))))
+            (λ (free : T (not (covered t ss f q))). inl ((s q legal).1 (free, λ os r. m.1 (o ∷ os) (m.0, l, a, r))))
             (grind arith),
       )
 
