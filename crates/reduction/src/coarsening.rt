@@ -64,14 +64,29 @@ impl<L: Single> Coarsening for Vec<L> {
     ghost layers = { λ ls. map L.layering ls.items };
 
     fn size(&self, v: usize, k: u16) -> u16 {
-        self.iter().fold(k, |k, layer| layer.size(v, k))
+        self.iter().fold(
+            k,
+            |k, layer| -> u16
+                ensures { result ≡ stack_size (L.layers layer.now) v k }
+            { layer.size(v, k) },
+        )
     }
 
     fn value(&self, v: usize, x: u16) -> u16 {
-        self.iter().fold(x, |x, layer| layer.value(v, x))
+        self.iter().fold(
+            x,
+            |x, layer| -> u16
+                ensures { result ≡ stack_image (L.layers layer.now) v x }
+            { layer.value(v, x) },
+        )
     }
 
     fn wanted(&self, v: usize, x: Option<u16>) -> Option<u16> {
-        self.iter().fold(x, |x, layer| layer.wanted(v, x))
+        self.iter().fold(
+            x,
+            |x, layer| -> Option<u16>
+                ensures { result ≡ stack_wanted (L.layers layer.now) v x }
+            { layer.wanted(v, x) },
+        )
     }
 }
