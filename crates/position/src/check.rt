@@ -1,4 +1,5 @@
 // Whether a list of values is a position.
+ghost use Rattle.std.specs.Prelude.{◌≤◌, Decides};
 ghost use Rattle.model.specs.Orders.{Least};
 ghost use Rattle.position.specs.Wrong.{Stray, Checked};
 
@@ -27,5 +28,12 @@ fn stray_value<S: TaskSource>(source: &S, values: &[u16]) -> Option<usize>
     values
         .iter()
         .enumerate()
-        .position(|(v, value)| *value >= size_or_one(source, v))
+        .position(|(v, value)| is_stray(source, v, *value))
+}
+
+// Whether the variable v has no such value.
+fn is_stray<S: TaskSource>(source: &S, v: usize, value: u16) -> bool
+    ensures { Decides result ((S.TaskSource.task source.now).size v ≤ value) }
+{
+    value >= size_or_one(source, v)
 }
