@@ -42,11 +42,19 @@ impl CodeSet for Bytes<'_> {
     }
 }
 
+#[tactic(auto, using(crate::proofs::Putting::put_bit))]
 fn put(bytes: &mut [u8], c: usize)
     requires { c / 8 < length bytes.old }
     ensures { (d : ℕ) → bit_of bytes.new d ≡ (d == c || bit_of bytes.old d) }
 {
     bytes[c / 8] |= 1 << (c % 8);
+}
+
+// Whether the code c is in the set, and not yet in the bytes.
+fn is_new<C: CodeSet>(bytes: &[u8], set: &C, c: usize) -> bool
+    ensures { result ≡ (C.CodeSet.members set.now c && not (bit_of bytes.now c)) }
+{
+    set.contains(c) && !bit(bytes, c)
 }
 
 // Adds the members of the set below `size` to the bytes, as far as these reach, and answers how many are new.
@@ -57,7 +65,7 @@ pub fn join<C: CodeSet>(bytes: &mut [u8], set: &C, size: usize) -> usize
     // A loop, not a chain: each code both changes the bytes and is counted.
     let mut new = 0;
     for c in 0..size.min(bytes.len().saturating_mul(8)) {
-        if set.contains(c) && !bit(bytes, c) {
+        if is_new(bytes, set, c) {
             put(bytes, c);
             new += 1;
         }

@@ -1,8 +1,9 @@
-use Rattle.std.proofs.Common.{◌≡◌, true, false, ◌⊎◌, ap, ◌∙◌, inl, inr, arith}
+use Rattle.std.proofs.Common.{◌≡◌, true, false, ◌⊎◌, ap, ◌∙◌, arith}
+use Rattle.std.proofs.lemmas.Bool.{cases_Bool}
 use Rattle.shelves.specs.Shelves.{bit_of}
 use Rattle.records.proofs.Putting.{joined_put, joined_kept}
 use Rattle.records.proofs.bits.join.Goals as goal
-use Rattle.records.proofs.bits.join.Goals.{then-contains+then-not-bit, else-contains, else-contains-via-then-contains+else-not-bit, else-contains-via-else-contains}
+use Rattle.records.proofs.bits.join.Goals.{then-is_new, else-is_new}
 
 pub loop-c-preserved : goal.loop-c-preserved
 loop-c-preserved g c =
@@ -11,15 +12,18 @@ loop-c-preserved g c =
     let set = g.C.CodeSet.members c.args.set.now in
     let i = c.loop-c.c in
     let (joined, counted, few) = c.loop-c.invariant in
-    elim c.if-contains.branch [
-      | then-contains+then-not-bit w ↦
-          let (bits, one) = joined_put xs ys set i joined c.if-contains.bytes w.if-contains.ensures w.if-not-bit.ensures (λ d. ap (λ z. bit_of z d) w.bytes-is ∙ w.put.ensures d) in
+    let in_set = cases_Bool (set i) in
+    let in_bytes = cases_Bool (bit_of ys i) in
+    elim c.if-is_new.branch [
+      | then-is_new w ↦
+          let new = w.if-is_new.ensures in
+          let member : true ≡ set i = grind arith in
+          let absent : false ≡ bit_of ys i = grind arith in
+          let (bits, one) = joined_put xs ys set i joined c.if-is_new.bytes member absent (λ d. ap (λ z. bit_of z d) w.bytes-is ∙ w.put.ensures d) in
           (bits, omega arith, omega arith)
-      | else-contains w ↦
-          let kept : (false ≡ set i) ⊎ (true ≡ bit_of ys i) = elim w.else-contains.branch [
-            | else-contains-via-then-contains+else-not-bit v ↦ inr v.if-not-bit.ensures
-            | else-contains-via-else-contains v ↦ inl v.if-contains.ensures
-          ] in
+      | else-is_new w ↦
+          let old = w.if-is_new.ensures in
+          let kept : (false ≡ set i) ⊎ (true ≡ bit_of ys i) = grind arith in
           let (bits, none) = joined_kept xs ys set i joined kept in
           ((λ d. ap (λ z. bit_of z d) w.bytes-is ∙ bits d), omega arith, omega arith)
     ]
