@@ -13,6 +13,7 @@ pub enum FrameFault {
     TooLarge(usize),
 }
 
+// A table of its own: number, layer and place of a fault stand beside its meaning, and no other kind has these three.
 impl Fault for FrameFault {
     ghost told = { frame_refusal };
 

@@ -23,6 +23,7 @@ pub struct Keep {
 // The source with only the variables of a mask.
 pub type LeaveOut<S> = Over<S, Keep>;
 
+// A size and a value of a variable that is left out differ, and so have a line each.
 impl Coarsening for Keep {
     ghost layers = { λ keep. keeping keep.mask ∷ [] };
 

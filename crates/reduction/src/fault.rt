@@ -16,6 +16,7 @@ pub enum ReductionFault {
     BadJoin(usize),
 }
 
+// A table of its own: number, layer and place of a fault stand beside its meaning, and no other kind has these three.
 impl Fault for ReductionFault {
     ghost told = { reduction_refusal };
 

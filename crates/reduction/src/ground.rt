@@ -19,6 +19,7 @@ impl<S: TaskSource> Ground<S> {
     }
 }
 
+// Each question is passed on by itself, as the interface asks it.
 impl<S: TaskSource> TaskSource for Ground<S> {
     ghost task = { λ s. S.TaskSource.task s.source };
 

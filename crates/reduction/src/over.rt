@@ -81,6 +81,7 @@ impl<S: Drop, L> Over<S, Vec<L>> {
     }
 }
 
+// Each question is passed on by itself, as the interface asks it, and its answer goes through the layers.
 impl<S: TaskSource, L: Coarsening> TaskSource for Over<S, L> {
     ghost task = { λ s. stacked (L.layers s.layer) (S.TaskSource.task s.source) };
 

@@ -19,7 +19,7 @@ pub fn kept(mask: u32, v: usize, value: Option<u16>) -> Option<u16>
     value.filter(|_| contains(mask, v))
 }
 
-// The lowest variable of the mask from n on.
+// The lowest variable of the mask from n on. A variable, not a fault: callers of two layers tell it as faults of their own.
 pub fn stray_variable(mask: u32, n: usize) -> Option<usize>
     ensures { Least (λ v. (n ≤ v) × (has mask v ≡ true)) result }
 {
