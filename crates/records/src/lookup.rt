@@ -1,5 +1,5 @@
 // Looking shelves up, by their frames and by the positions on them.
-ghost use Rattle.std.specs.Prelude.{◌≡◌, ℕ, ◌<◌, ◌&&◌, List, length, MatchOption};
+ghost use Rattle.std.specs.Prelude.{◌≡◌, ℕ, ◌<◌, ◌&&◌, List, length, MatchOption, ◌==◌};
 ghost use Rattle.model.specs.Tasks.{position};
 ghost use Rattle.model.specs.Frames.{strictly_inside};
 ghost use Rattle.shelves.specs.Shelves.{place};
@@ -14,6 +14,13 @@ pub fn strictly_inside(inner: u32, outer: u32) -> bool
     inner & outer == inner && inner != outer
 }
 
+// Whether this is the shelf of the mask.
+fn is_of(shelf: &Shelf, mask: u32) -> bool
+    ensures { result ≡ (shelf.now.frame.mask == mask) }
+{
+    shelf.frame.mask() == mask
+}
+
 // The shelves in memory, by their numbers, and the pool that has their bytes.
 #[derive(Clone, Copy)]
 pub struct Shelves<'r, 'p> {
@@ -26,9 +33,7 @@ impl Shelves<'_, '_> {
     pub fn place_of(&self, mask: u32) -> Option<usize>
         ensures { (pool : List ℕ) → let rs = self.now.records.now in let at = place (shelves_of pool rs) mask in MatchOption result (at ≡ length rs) (λ i. (i < length rs) × (at ≡ i)) }
     {
-        self.records
-            .iter()
-            .position(|shelf| shelf.frame.mask() == mask)
+        self.records.iter().position(|shelf| is_of(shelf, mask))
     }
 
     // Whether the position is on the shelf, and the shelf's frame lies strictly inside this mask.
