@@ -48,7 +48,8 @@ impl<W: AsSlice<u16> + Drop> TryFrom<W> for Card<W> {
 }
 
 impl<W: AsSlice<u16> + Drop> Card<W> {
-    // Takes the words as this card, if nothing is wrong with them. Declined, it stays as it was.
+    // Takes the words as this card, if nothing is wrong with them. Declined, it stays as it was. As short as `Ring::set`, and over a field of
+    // its own: a trait for the two would be longer than both.
     pub fn read(&mut self, words: W) -> Result<(), CardFault>
         ensures reads { Reads (W.items words) result }
         ensures held { MatchResult result (λ _. self.new.words ≡ words) (λ _. self.new ≡ self.old) }

@@ -8,7 +8,7 @@ use crate::fault::RegisterFault;
 use frame::frame::Frame;
 use records::bits::{bit, bytes_for};
 
-// The lowest bit from `size` on that is set.
+// The lowest bit from `size` on that is set. The place and not the fault: that it is the least one is all that the chain has to prove.
 fn spare_bit(bytes: &[u8], size: usize) -> Option<usize>
     requires { length bytes.now ≤ 2048 }
     ensures { Least (λ b. (size ≤ b) × (b < 8 * length bytes.now) × (bit_of bytes.now b ≡ true)) result }

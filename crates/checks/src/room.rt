@@ -17,7 +17,7 @@ fn fits(length: usize, limit: usize) -> bool
 }
 
 // The caller's memory: how many shelf records, and how many bytes of pool.
-#[derive(Clone, Copy)]
+#[derive(Clone, Copy, PartialEq, Eq, Debug)]
 pub struct Memory {
     pub records: usize,
     pub pool: usize,

@@ -10,7 +10,7 @@ use task::moves::MAX_VARIABLES;
 use task::source::TaskSource;
 
 // How many variables a task has, and their sizes: a list in fixed memory, as that of a frame.
-#[derive(Clone, Copy)]
+#[derive(Clone, Copy, PartialEq, Eq, Debug)]
 pub struct Variables {
     pub n: usize,
     pub sizes: [u16; MAX_VARIABLES],
@@ -28,7 +28,7 @@ impl Variables {
         }
     }
 
-    // The lowest variable whose size differs.
+    // The lowest variable whose size differs. The place and not the fault: that it is the least one is all that the chain has to prove.
     fn other_size<S: TaskSource>(&self, source: &S) -> Option<usize>
         ensures { Least (λ v. (v < (S.TaskSource.task source.now).n) × (size_in self.now.sizes v ≢ (S.TaskSource.task source.now).size v)) result }
     {

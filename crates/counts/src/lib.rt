@@ -5,7 +5,7 @@ ghost use Rattle.std.specs.Prelude.{◌≡◌, ◌≤◌, true, ◌&&◌, length
 ghost use Rattle.model.specs.Frames.{choose};
 ghost use Rattle.counts.specs.Pascal.{pascal};
 
-// Row a, column b: how many sets of b of a things there are. One flat list: the entry at 33 * a + b, and no list of lists.
+// Row a, column b: how many sets of b of a things there are. One flat list, so that one test goes through all of it.
 const TABLE: [u32; 1089] = [
     1, 0, 0, 0, 0, 0, 0, 0, 0, 0, 0, 0, 0, 0, 0, 0, 0, 0, 0, 0, 0, 0, 0, 0, 0, 0, 0, 0, 0, 0, 0, 0,
     0, 1, 1, 0, 0, 0, 0, 0, 0, 0, 0, 0, 0, 0, 0, 0, 0, 0, 0, 0, 0, 0, 0, 0, 0, 0, 0, 0, 0, 0, 0, 0,

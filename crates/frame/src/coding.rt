@@ -65,7 +65,11 @@ impl Frame {
     pub fn values(&self, code: usize) -> [u16; 32]
         ensures { position result ≡ values_of self.now code }
     {
-        array::from_fn(|v| self.value(code, v))
+        array::from_fn(
+            |v| -> u16
+                ensures { result ≡ values_of self.entry.now code v }
+            { self.value(code, v) },
+        )
     }
 
     // The code, in a frame that lies inside, of the values that a code of this frame stands for.

@@ -5,7 +5,8 @@ ghost use Rattle.frame.specs.Held.{size_in, Sized, Strided, OnesFrom};
 
 // A set of variables with all that coding needs: the sizes of the task's variables, for each variable the product of the sizes of the
 // frame's lower variables (its stride), and the product of all of them. Two lists in fixed memory, not one of pairs: the sizes are the
-// task's, told and compared as a list of their own, and the strides are made from them.
+// task's, told and compared as a list of their own, and the strides are made from them. Ghost fields, not a model: with a model each function
+// would open the frame before it reads a field, and `value` would need a proof file.
 #[derive(Clone, Copy)]
 pub struct Frame {
     pub(crate) n: usize,

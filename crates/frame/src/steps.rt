@@ -20,7 +20,7 @@ impl Frame {
         kept(self.mask, v, wanted).is_none_or(|x| self.value(c, v) == x)
     }
 
-    // Whether the operator o applies at the code c.
+    // Whether the operator o applies at the code c: a chain of one line, as at a position, over values that are read another way.
     pub fn applies<S: TaskSource>(&self, source: &S, o: usize, c: usize) -> bool
         ensures { Decides result (Applies (onto self.now.mask (S.TaskSource.task source.now)) o (values_of self.now c)) }
     {
@@ -44,7 +44,8 @@ impl Frame {
         self.code(&values)
     }
 
-    // The code that the operator o leads to from the code c, if it applies there.
+    // The code that the operator o leads to from the code c, if it applies there. Said over sizes and a count, not of a frame: the check of a
+    // claim reads it over those of the task.
     pub fn step<S: TaskSource>(&self, source: &S, o: usize, c: usize) -> Option<usize>
         ensures { LeadsTo (onto self.now.mask (S.TaskSource.task source.now)) (size_in self.now.sizes) self.now.mask self.now.n o c result }
     {

@@ -1,4 +1,4 @@
-// From a frame to its number and back.
+// From a frame to its number and back. Candidates and frames are masks, plain numbers as everywhere.
 ghost use Rattle.std.specs.Prelude.{◌≡◌, ◌<◌, length, slice_index};
 ghost use Rattle.numbers.specs.Numbers.{frames, Listed, Lowest, Numbered, FrameOf, FrameAfter};
 

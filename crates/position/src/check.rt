@@ -21,7 +21,7 @@ pub fn check_position<S: TaskSource>(source: &S, values: &[u16]) -> Result<(), P
     }
 }
 
-// The lowest index of a value that is not below its variable's size.
+// The lowest index of a value that is not below its variable's size. The place and not the fault: that it is the least one is all that the chain has to prove.
 fn stray_value<S: TaskSource>(source: &S, values: &[u16]) -> Option<usize>
     ensures { Least (Stray (S.TaskSource.task source.now) values.now) result }
 {

@@ -28,7 +28,7 @@ pub trait CodeSet {
         ensures { result ≡ members self.now c };
 }
 
-// The set that bytes hold.
+// The set that bytes hold. It has no equality: bytes of two lengths may hold one set.
 #[derive(Clone, Copy)]
 pub struct Bytes<'a> {
     pub bytes: &'a [u8],

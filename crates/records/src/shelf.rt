@@ -7,7 +7,7 @@ ghost use Rattle.records.specs.Records.{bytes_of, on};
 use crate::bits::{bit, bytes_for};
 use frame::frame::Frame;
 
-// A shelf in memory: its frame, and where its bytes begin in the pool.
+// A shelf in memory: its frame, and where its bytes begin in the pool. A number and not a slice: the pool is lent as a whole.
 #[derive(Clone, Copy)]
 pub struct Shelf {
     pub frame: Frame,

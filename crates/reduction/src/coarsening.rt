@@ -59,7 +59,7 @@ pub trait Neutral: Coarsening {
     ghost changes_nothing: { (l : Self) (t : Task) → idle l → Lawful t → stacked (Self.layers l) t ≡ t };
 }
 
-// Layers one over the other.
+// Layers one over the other. A fold for each question: each has a type and a clause of its own.
 impl<L: Single> Coarsening for Vec<L> {
     ghost layers = { λ ls. map L.layering ls.items };
 

@@ -16,7 +16,7 @@ pub enum ReductionFault {
     BadJoin(usize),
 }
 
-// A table of its own: number, layer and place of a fault stand beside its meaning, and no other kind has these three.
+// A table of its own: the rules give each kind of fault its numbers and places, and its layer tells it from other kinds.
 impl Fault for ReductionFault {
     ghost told = { reduction_refusal };
 

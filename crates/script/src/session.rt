@@ -121,7 +121,7 @@ impl Session {
         Ok(())
     }
 
-    // Puts a layer on top of the task, if there is one.
+    // Puts a layer on top of the task, if there is one. A match on the source here and in `ask`: a closure would have one type of pile.
     fn put(&mut self, layer: Layer) -> Result<(), Trouble>
         ensures { CarriedOut result (Tops self.old layer self.new) (self.new ≡ self.old) }
     {

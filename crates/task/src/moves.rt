@@ -57,7 +57,7 @@ fn start_or_zero<S: TaskSource>(source: &S, v: usize) -> u16
     source.start(v).unwrap_or(0)
 }
 
-// The lowest variable that misses its goal value, and none at a goal position.
+// The lowest variable that misses its goal value, and none at a goal position. A variable and not a fault: a position may miss the goal.
 pub fn missed_goal<S: TaskSource>(source: &S, values: &[u16]) -> Option<usize>
     ensures { Least (λ v. Holds ((S.TaskSource.task source.now).goal v) (position values.now v) → ⊥) result }
 {

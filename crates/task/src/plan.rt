@@ -7,7 +7,7 @@ use crate::fault::{MAX_PLAN, PlanFault};
 use crate::moves::{MAX_VARIABLES, advance, applies, missed_goal, start_position};
 use crate::source::TaskSource;
 
-// The index of the first number that no operator has. An index, not a fault yet: that it is one is for following to say.
+// The index of the first number that no operator has. The place and not the fault: that it is the least one is all that the chain has to prove.
 fn unknown_operator<S: TaskSource>(source: &S, operators: &[u16]) -> Option<usize>
     ensures { Least (λ i. (i < length operators.now) × ((S.TaskSource.task source.now).m ≤ slice_index operators.now i)) result }
 {
