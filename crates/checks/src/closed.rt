@@ -46,7 +46,7 @@ impl Claim<'_, '_, '_, '_> {
     fn leads_out<S: TaskSource>(&self, source: &S, c: usize, o: usize) -> bool
         ensures { let q = self.now in let t = S.TaskSource.task source.now in Fits t q.frame.now q.shelves.records.now → Decides result (Leaves t (shelves_of q.shelves.pool.now q.shelves.records.now) q.frame.now.mask (bit_of q.bytes.now) c o) }
     {
-        // A match, not `is_some_and`: the proof gets nothing to say of that closure's answer.
+        // A match, not `is_some_and`: the proof does not close over what the closure asks of the claim.
         match self.frame.step(source, o, c) {
             Some(d) => self.is_out(d),
             None => false,

@@ -10,7 +10,7 @@ use crate::kinds::{Command, LineFault, ParseError, Query, Verb};
 use std::alloc::Global;
 
 // The number in 16 bits, if it fits.
-fn narrow(number: u32) -> Result<u16, ParseError>
+fn narrow_number(number: u32) -> Result<u16, ParseError>
     ensures { result ≡ (if narrow number then Ok number else Err (Line NoNumber)) }
 {
     u16::try_from(number).map_err(|_| LineFault::NoNumber.into())
@@ -21,7 +21,7 @@ fn narrowed(heap: Global, numbers: &[u32]) -> Result<Vec<u16>, ParseError>
     ensures { IfMemorySuffices result (λ found. result_map_both vec_items (λ fault. fault) found
         ≡ (if all_narrow numbers.now then Ok numbers.now else Err NoNumber)) }
 {
-    numbers.iter().map(|x| narrow(*x)).try_collect(heap)
+    numbers.iter().map(|x| narrow_number(*x)).try_collect(heap)
 }
 
 // The command of this verb with these numbers.
@@ -34,14 +34,14 @@ pub(crate) fn command(heap: Global, verb: Verb, numbers: &[u32]) -> Result<Comma
         (Verb::LeaveOut, &[mask]) => Command::LeaveOut(mask),
         (Verb::Join, &[variable, low, high]) => Command::Join {
             variable,
-            low: narrow(low)?,
-            high: narrow(high)?,
+            low: narrow_number(low)?,
+            high: narrow_number(high)?,
         },
         (Verb::Task, []) => Command::Ask(Query::Task),
         (Verb::Follow, operators) => Command::Ask(Query::Follow(narrowed(heap, operators)?)),
         (Verb::Image, &[variable, value]) => Command::Ask(Query::Image {
             variable,
-            value: narrow(value)?,
+            value: narrow_number(value)?,
         }),
         (Verb::Frame, &[mask]) => Command::Ask(Query::Frame(mask)),
         (Verb::Code, &[mask, ref values @ ..]) => Command::Ask(Query::Code {

@@ -7,6 +7,7 @@ use crate::fault::FrameFault;
 use crate::frame::Frame;
 use crate::measure::{measure, sizes_of};
 use task::mask::stray_variable;
+use task::moves::MAX_VARIABLES;
 use task::source::TaskSource;
 
 impl Frame {
@@ -18,8 +19,8 @@ impl Frame {
         Frame {
             n: 1,
             mask: 1,
-            sizes: [1; 32],
-            strides: [1; 32],
+            sizes: [1; MAX_VARIABLES],
+            strides: [1; MAX_VARIABLES],
             size: 1,
         }
     }

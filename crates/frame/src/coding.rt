@@ -8,6 +8,7 @@ ghost use Rattle.frame.specs.Codes.{values_of, code_of};
 use crate::frame::Frame;
 use std::array;
 use task::mask::contains;
+use task::moves::MAX_VARIABLES;
 use task::words::word;
 
 impl Frame {
@@ -62,7 +63,7 @@ impl Frame {
     }
 
     // The position that a code stands for.
-    pub fn values(&self, code: usize) -> [u16; 32]
+    pub fn values(&self, code: usize) -> [u16; MAX_VARIABLES]
         ensures { position result ≡ values_of self.now code }
     {
         array::from_fn(

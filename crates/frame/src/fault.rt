@@ -13,7 +13,7 @@ pub enum FrameFault {
     TooLarge(usize),
 }
 
-// A table of its own: the rules give each kind of fault its numbers and places, and its layer tells it from other kinds.
+// A table of its own: number, layer and place of each fault stand beside its meaning.
 impl Fault for FrameFault {
     ghost told = { frame_refusal };
 

@@ -1,7 +1,9 @@
 // A frame, written whole into one that the caller lends.
-ghost use Rattle.std.specs.Prelude.{◌≡◌, ℕ, ◌^◌, ◌<◌, ◌≤◌};
+ghost use Rattle.std.specs.Prelude.{◌≡◌, ◌^◌, ◌<◌, ◌≤◌};
 ghost use Rattle.model.specs.Frames.{width_by};
 ghost use Rattle.frame.specs.Held.{size_in, Sized, Strided, OnesFrom};
+
+use task::moves::MAX_VARIABLES;
 
 // A set of variables with all that coding needs: the sizes of the task's variables, for each variable the product of the sizes of the
 // frame's lower variables (its stride), and the product of all of them. Two lists in fixed memory, not one of pairs: the sizes are the
@@ -11,8 +13,8 @@ ghost use Rattle.frame.specs.Held.{size_in, Sized, Strided, OnesFrom};
 pub struct Frame {
     pub(crate) n: usize,
     pub(crate) mask: u32,
-    pub(crate) sizes: [u16; 32],
-    pub(crate) strides: [u32; 32],
+    pub(crate) sizes: [u16; MAX_VARIABLES],
+    pub(crate) strides: [u32; MAX_VARIABLES],
     pub(crate) size: u32,
     ghost few: { n ≤ 32 },
     ghost some: { 0 < mask },

@@ -47,7 +47,7 @@ pub(crate) fn card_length(words: &[u16]) -> usize
     goal_at(words) + 1 + 2 * operators(words) + 3 * (records(words) as usize)
 }
 
-// A function for each word of a record, by the word's name: they differ in its place alone.
+// A function for each word of a record, by the word's name. A variable is an index, the others are words.
 pub(crate) fn variable_of(words: &[u16], k: u16) -> usize
     ensures { result ≡ variable_of words.now k }
 {

@@ -1,5 +1,5 @@
 // Sets of codes as bytes: code c is bit c mod 8 of byte c div 8, the lowest bit first.
-ghost use Rattle.std.specs.Prelude.{◌≡◌, ℕ, ◌*◌, ◌/◌, ◌<◌, min, Bool, not, ◌&&◌, ◌||◌, length, replicate, ◌==◌, nat_lt};
+ghost use Rattle.std.specs.Prelude.{◌≡◌, ℕ, ◌/◌, ◌<◌, min, Bool, not, ◌&&◌, ◌||◌, length, replicate, ◌==◌, nat_lt};
 ghost use Rattle.shelves.specs.Shelves.{bit_of, bytes_for};
 ghost use Rattle.shelves.specs.Filing.{count};
 ghost use Rattle.records.specs.Bits.{reach};

@@ -6,7 +6,7 @@ use Rattle.model.specs.LeaveOut.{has}
 use Rattle.reduction.specs.declared.fault.ReductionFault.{ReductionFault}
 use Rattle.reduction.specs.declared.fault.ReductionFault.TheVariants.{EmptyMask, NoSuchVariable, BadJoin}
 use Rattle.reduction.specs.declared.fault.PutError.{PutError}
-use Rattle.reduction.specs.declared.fault.PutError.TheVariants.{Declined, NoMemory}
+use Rattle.reduction.specs.declared.fault.PutError.TheVariants.{Declined, OutOfMemory}
 use Rattle.reduction.specs.Faults.{reduction_turn}
 
 -- with keeping the variables of a mask: there is none, or one that the task has not
@@ -30,7 +30,7 @@ Tests Wrong (Err e) = First reduction_turn Wrong e
 abbrev pub PutTests : (ReductionFault → Type 0) → Result (Unit {0}) PutError → Type 0
 PutTests Wrong (Ok _) = (e : ReductionFault) → Wrong e → ⊥
 PutTests Wrong (Err (Declined e)) = First reduction_turn Wrong e
-PutTests Wrong (Err (NoMemory _)) = (e : ReductionFault) → Wrong e → ⊥
+PutTests Wrong (Err (OutOfMemory _)) = (e : ReductionFault) → Wrong e → ⊥
 
 -- what a call that puts the layer l on top answers, and what it leaves: one layer more where it is accepted, and else the same
 abbrev pub Puts : {L : Type 0} → L → List L → Result (Unit {0}) PutError → List L → Type 0

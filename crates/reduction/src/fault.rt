@@ -1,7 +1,7 @@
 // What can be wrong with a leave-out or a join that is asked for.
 ghost use Rattle.std.specs.Prelude.{◌≡◌};
 ghost use Rattle.reduction.specs.Faults.{reduction_refusal};
-ghost use Rattle.reduction.specs.declared.fault.PutError.TheVariants.{Declined, NoMemory};
+ghost use Rattle.reduction.specs.declared.fault.PutError.TheVariants.{Declined, OutOfMemory};
 
 use std::alloc::{AllocError, AllocFailed};
 use task::refusal::{Fault, Layer, Refusal};
@@ -16,7 +16,7 @@ pub enum ReductionFault {
     BadJoin(usize),
 }
 
-// A table of its own: the rules give each kind of fault its numbers and places, and its layer tells it from other kinds.
+// A table of its own: number, layer and place of each fault stand beside its meaning.
 impl Fault for ReductionFault {
     ghost told = { reduction_refusal };
 
@@ -38,7 +38,7 @@ impl Fault for ReductionFault {
 #[derive(Clone, Copy, PartialEq, Eq, Debug)]
 pub enum PutError {
     Declined(ReductionFault),
-    NoMemory(AllocError),
+    OutOfMemory(AllocError),
 }
 
 impl From<ReductionFault> for PutError {
@@ -50,9 +50,9 @@ impl From<ReductionFault> for PutError {
 }
 
 impl<T: Drop> From<AllocFailed<T>> for PutError {
-    ghost from_gives = { λ _ e. e ≡ NoMemory (record {}) };
+    ghost from_gives = { λ _ e. e ≡ OutOfMemory (record {}) };
 
     fn from(_refused: AllocFailed<T>) -> PutError {
-        PutError::NoMemory(AllocError)
+        PutError::OutOfMemory(AllocError)
     }
 }

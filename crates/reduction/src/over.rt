@@ -1,5 +1,5 @@
 // A source under a layer, or under a list of layers, the lowest first.
-ghost use Rattle.std.specs.Prelude.{◌≡◌, map, MatchResult, OnOk};
+ghost use Rattle.std.specs.Prelude.{◌≡◌, [], ◌∷◌, ◌++◌, map, MatchResult};
 ghost use Rattle.model.specs.Stack.{layered, stack_image, stacked};
 ghost use Rattle.model.proofs.Reducing.{compose};
 ghost use Rattle.model.proofs.Stacking.{stacked_lawful};
@@ -64,7 +64,7 @@ impl<S: TaskSource, L: Single + Drop> Over<S, Vec<L>> {
         ensures tests { PutTests (L.wrong (stacked (map L.layering self.old.layer.items) (S.TaskSource.task self.old.source)) layer) result }
         ensures below { self.new.source ≡ self.old.source }
         ensures puts { Puts layer self.old.layer.items result self.new.layer.items }
-        ensures tops { OnOk result (stacked (map L.layering self.new.layer.items) (S.TaskSource.task self.new.source) ≡ layered (L.layering layer) (stacked (map L.layering self.old.layer.items) (S.TaskSource.task self.old.source))) }
+        ensures tops { stacked (map L.layering (self.old.layer.items ++ (layer ∷ []))) (S.TaskSource.task self.old.source) ≡ layered (L.layering layer) (stacked (map L.layering self.old.layer.items) (S.TaskSource.task self.old.source)) }
     {
         layer.check(self)?;
         self.layer.push(layer)?;

@@ -1,9 +1,7 @@
 -- What a line makes of what a session holds.
-use Rattle.std.specs.Prelude.{◌≡◌, ℕ, ◌≤◌, ◌⊎◌, List, [], ◌∷◌, ◌++◌, Some, None, Ok, Err, vec_items, Option, Result}
-use Rattle.model.specs.Tasks.{Task}
+use Rattle.std.specs.Prelude.{◌≡◌, ℕ, ◌≤◌, ◌⊎◌, List, [], ◌∷◌, ◌++◌, Some, None, Ok, Err, Option, Result}
 use Rattle.model.specs.Orders.{First}
 use Rattle.model.specs.Card as cards
-use Rattle.model.specs.Ring as rings
 use Rattle.model.specs.Stack.{stacked}
 use Rattle.layout.specs.declared.fault.CardFault.{CardFault}
 use Rattle.layout.specs.Faults.{card_turn}
@@ -50,7 +48,7 @@ After h None h' = h' ≡ h
 abbrev pub Does : List ℕ → Held → Held → Type 0
 Does text h h' = (before : List ℕ) × (ws : List (List ℕ)) × BeforeComment text before × Words before ws × After h (says ws) h'
 
--- What holds after a line is P, also where the line was told to do nothing; where input, output or memory failed, it may be Q.
+-- P holds after a line that was carried out or refused (no command, no task, declined); where input, output or memory failed, P or Q.
 abbrev pub CarriedOut : Result (Unit {0}) Trouble → Type 0 → Type 0 → Type 0
 CarriedOut (Ok _) P Q = P
 CarriedOut (Err (Line e)) P Q = P

@@ -61,10 +61,11 @@ fn variable<R: Print, S: TaskSource>(rt: &R, source: &S, v: usize) -> io::Result
 fn wanted<R: Print, F: Fn(usize) -> Option<u16>>(rt: &R, n: usize, value: F) -> io::Result<()>
     requires { F.IsAlwaysCallable value }
 {
-    if (0..n).all(|v| value(v).is_none()) {
+    let mut values = (0..n).filter_map(|v| Some((v, value(v)?))).peekable();
+    if values.peek().is_none() {
         return print!(rt; " nothing");
     }
-    for (v, x) in (0..n).filter_map(|v| Some((v, value(v)?))) {
+    for (v, x) in values {
         print!(rt; " v{v}={x}")?;
     }
     Ok(())

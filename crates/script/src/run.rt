@@ -5,19 +5,20 @@ use std::{fs, io};
 
 // Carries out each line of standard input as it comes.
 pub fn input(rt: &HostRuntime) -> io::Result<()> {
-    lines(rt, BufReader::new(rt.alloc(), rt.stdin())?)
+    let mut session = Session::new(rt.alloc());
+    let lines = BufReader::new(rt.alloc(), rt.stdin())?.lines(rt.alloc());
+    for (i, line) in lines.enumerate() {
+        session.line(rt, i + 1, line?.as_str())?;
+    }
+    Ok(())
 }
 
-// Carries out each line of the file with this name.
+// Carries out each line of the file with this name. Beside `input`, since its lines are parts of the text and need no memory of their own.
 pub fn file(rt: &HostRuntime, name: &str) -> io::Result<()> {
     let text = fs::read_to_string(rt, name)?;
-    lines(rt, text.as_bytes())
-}
-
-fn lines<B: BufRead + Drop>(rt: &HostRuntime, reader: B) -> io::Result<()> {
     let mut session = Session::new(rt.alloc());
-    for (i, line) in reader.lines(rt.alloc()).enumerate() {
-        session.line(rt, i + 1, line?.as_str())?;
+    for (i, line) in text.lines().enumerate() {
+        session.line(rt, i + 1, line)?;
     }
     Ok(())
 }

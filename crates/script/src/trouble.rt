@@ -49,7 +49,7 @@ impl From<PutError> for Trouble {
     fn from(e: PutError) -> Trouble {
         match e {
             PutError::Declined(fault) => declined(fault),
-            PutError::NoMemory(full) => full.into(),
+            PutError::OutOfMemory(full) => full.into(),
         }
     }
 }
@@ -63,7 +63,9 @@ impl From<io::Error> for Trouble {
 }
 
 impl From<AllocError> for Trouble {
-    ghost from_gives = { λ _ y. (e : _) × (y ≡ Machine e) };
+    ghost use Rattle.script.specs.Troubles.{full};
+
+    ghost from_gives = { λ _ t. full t };
 
     fn from(e: AllocError) -> Trouble {
         Trouble::Machine(e.into())

@@ -1,5 +1,5 @@
 // Sets of variables as masks of 32 bits: bit v stands for the variable v. A plain number, since callers hand it over as one.
-ghost use Rattle.std.specs.Prelude.{◌≡◌, ◌≤◌, true, if◌then◌else◌, None, Decides};
+ghost use Rattle.std.specs.Prelude.{◌≡◌, ◌≤◌, true, if◌then◌else◌, None};
 ghost use Rattle.model.specs.Orders.{Least};
 ghost use Rattle.model.specs.LeaveOut.{has};
 
@@ -23,12 +23,9 @@ pub fn kept(mask: u32, v: usize, value: Option<u16>) -> Option<u16>
 pub fn stray_variable(mask: u32, n: usize) -> Option<usize>
     ensures { Least (λ v. (n ≤ v) × (has mask v ≡ true)) result }
 {
-    (0..MAX_VARIABLES).find(|v| is_stray(mask, n, *v))
-}
-
-// Whether the mask has v, which is not below n.
-fn is_stray(mask: u32, n: usize, v: usize) -> bool
-    ensures { Decides result ((n ≤ v) × (has mask v ≡ true)) }
-{
-    v >= n && contains(mask, v)
+    (n..MAX_VARIABLES).find(
+        |&v| -> bool
+            ensures { result ≡ has mask v }
+        { contains(mask, v) },
+    )
 }

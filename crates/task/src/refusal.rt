@@ -44,7 +44,7 @@ impl fmt::Display for Refusal {
 }
 
 // What can be wrong with a call. Each kind of fault has one definition that gives the number, layer and place of each of its cases.
-// A trait of its own, and not `From`: what takes any fault bounds by it, reads the fault and leaves it to the caller.
+// A trait of its own, and not `From`: one bound for all kinds of faults, whose member tells callers what each is refused as.
 pub trait Fault {
     ghost told: { Self → Refusal };
 

@@ -4,7 +4,7 @@ use crate::told::number_and_place;
 use card::Card;
 use join::{Join, Pair};
 use leave_out::{Keep, LeaveOut};
-use reduction::fault::{PutError, ReductionFault};
+use reduction::fault::PutError;
 use reduction::ground::Ground;
 use reduction::interface::{Reduction, image_of};
 use ring::Ring;
