@@ -30,35 +30,25 @@ SealedBelow t q n = (k : ℕ) → k < n → Sealed t (shelves_of q.shelves.pool.
 abbrev pub KeptBelow : Task → Claim → ℕ → ℕ → Type 0
 KeptBelow t q c m = (o : ℕ) → o < m → Leaves t (shelves_of q.shelves.pool.now q.shelves.records.now) q.frame.now.mask (bit_of q.bytes.now) c o → ⊥
 
-module _ (t : Task) (q : Claim) where
-  abbrev mask : ℕ
-  mask = q.frame.now.mask
+module _ (t : Task) (ss : List shelves.Shelf) (f : ℕ) (set : ℕ → Bool) where
+  pub set_right : ((k : ℕ) → k < frame_size t f → Sealed t ss f set k) → (e : RegisterFault) → SetWrong t ss f set e → ⊥
+  set_right low _ (meets c o g) = (low c o.0 o).0 g
+  set_right low _ (leads c u o l w) = (low c o.0 o).1 u l w
 
-  abbrev below : List shelves.Shelf
-  below = shelves_of q.shelves.pool.now q.shelves.records.now
-
-  abbrev set : ℕ → Bool
-  set = bit_of q.bytes.now
-
-  all_sealed : SealedBelow t q (frame_size t mask) → (e : RegisterFault) → SetWrong t below mask set e → ⊥
-  all_sealed low _ (meets c o g) = (low c o.0 o).0 g
-  all_sealed low _ (leads c u o l w) = (low c o.0 o).1 u l w
-
-  first_goal : (c : ℕ) → SealedBelow t q c → Open t below mask set c → IsGoal (onto mask t) (values t mask c) → First register_turn (SetWrong t below mask set) (MeetsGoal c)
+  pub first_goal : (c : ℕ) → ((k : ℕ) → k < c → Sealed t ss f set k) → Open t ss f set c → IsGoal (onto f t) (values t f c) → First register_turn (SetWrong t ss f set) (MeetsGoal c)
   first_goal c low o g = (meets c o g, go)
     where
-      go : (e : RegisterFault) → SetWrong t below mask set e → Earlier (register_turn e) (register_turn (MeetsGoal c)) → ⊥
+      go : (e : RegisterFault) → SetWrong t ss f set e → Earlier (register_turn e) (register_turn (MeetsGoal c)) → ⊥
       go _ (meets k p h) e = grind (arith, low k)
       go _ (leads k u p l w) e = grind (arith, low k)
 
-  first_out : (c o : ℕ) → SealedBelow t q c → Open t below mask set c → (IsGoal (onto mask t) (values t mask c) → ⊥) → o < t.m → Leaves t below mask set c o → KeptBelow t q c o → First register_turn (SetWrong t below mask set) (LeadsOut c o)
+  pub first_out : (c o : ℕ) → ((k : ℕ) → k < c → Sealed t ss f set k) → Open t ss f set c → (IsGoal (onto f t) (values t f c) → ⊥) → o < t.m → Leaves t ss f set c o → ((u : ℕ) → u < o → Leaves t ss f set c u → ⊥)
+      → First register_turn (SetWrong t ss f set) (LeadsOut c o)
   first_out c o low p none l w least = (leads c o p l w, go)
     where
-      go : (e : RegisterFault) → SetWrong t below mask set e → Earlier (register_turn e) (register_turn (LeadsOut c o)) → ⊥
+      go : (e : RegisterFault) → SetWrong t ss f set e → Earlier (register_turn e) (register_turn (LeadsOut c o)) → ⊥
       go _ (meets k p' h) e = grind (arith, low k)
       go _ (leads k u p' m v) e = grind (arith, low k, least u)
-
--- ---- what the tests of a code tell
 
 module _ (t : Task) (law : Lawful t) (q : Claim) (fits : Fits t q.frame.now q.shelves.records.now) where
   abbrev frame : Frame
@@ -76,19 +66,19 @@ module _ (t : Task) (law : Lawful t) (q : Claim) (fits : Fits t q.frame.now q.sh
   covered_code : (c : ℕ) → code_covered q c ≡ covered t ss f (values t f c)
   covered_code c = covered_same t q.shelves.pool.now q.shelves.records.now f (values_by (size_in frame.sizes) f c) fits.2 ∙ ap (λ size. covered t ss f (values_by size f c)) fits.1
 
-  size_same : frame.size ≡ frame_size t f
+  pub size_same : frame.size ≡ frame_size t f
   size_same = frame.whole ∙ (λ i. width_by (fits.1 i) f (fits.0 i))
 
-  is_open : (c : ℕ) → c < frame.size → true ≡ (bit_of bytes c && not (code_covered q c)) → Open t ss f (bit_of bytes) c
+  pub is_open : (c : ℕ) → c < frame.size → true ≡ (bit_of bytes c && not (code_covered q c)) → Open t ss f (bit_of bytes) c
   is_open c h e = grind (arith, size_same, covered_code c)
 
-  not_open : (c : ℕ) → false ≡ (bit_of bytes c && not (code_covered q c)) → Open t ss f (bit_of bytes) c → ⊥
+  pub not_open : (c : ℕ) → false ≡ (bit_of bytes c && not (code_covered q c)) → Open t ss f (bit_of bytes) c → ⊥
   not_open c e o = grind (arith, covered_code c)
 
-  goal_same : (c : ℕ) → IsGoal (onto f t) (values t f c) → IsGoal (onto f t) (values_by (size_in frame.sizes) f c)
+  pub goal_same : (c : ℕ) → IsGoal (onto f t) (values t f c) → IsGoal (onto f t) (values_by (size_in frame.sizes) f c)
   goal_same c h = subst (λ size. IsGoal (onto f t) (values_by size f c)) (sym fits.1) h
 
-  goal_there : (c : ℕ) → IsGoal (onto f t) (values_by (size_in frame.sizes) f c) → IsGoal (onto f t) (values t f c)
+  pub goal_there : (c : ℕ) → IsGoal (onto f t) (values_by (size_in frame.sizes) f c) → IsGoal (onto f t) (values t f c)
   goal_there c h = subst (λ size. IsGoal (onto f t) (values_by size f c)) fits.1 h
 
   -- an operator that applies leads out where its code is neither claimed nor covered
@@ -116,12 +106,12 @@ module _ (t : Task) (law : Lawful t) (q : Claim) (fits : Fits t q.frame.now q.sh
   sealed_passed c low miss kept = below_more _ c low (λ o. ((λ h. miss (goal_same c h)), kept))
 
   pub nothing_wrong : SealedBelow t q frame.size → (e : RegisterFault) → SetWrong t ss f (bit_of bytes) e → ⊥
-  nothing_wrong low = all_sealed t q (λ k h. low k (omega (arith, size_same)))
+  nothing_wrong low = set_right t ss f (bit_of bytes) (λ k h. low k (omega (arith, size_same)))
 
   pub goal_is_first : (c : ℕ) → c < frame.size → SealedBelow t q c → true ≡ (bit_of bytes c && not (code_covered q c)) → IsGoal (onto f t) (values_by (size_in frame.sizes) f c)
       → First register_turn (SetWrong t ss f (bit_of bytes)) (MeetsGoal c)
-  goal_is_first c l low e g = first_goal t q c low (is_open c l e) (goal_there c g)
+  goal_is_first c l low e g = first_goal t ss f (bit_of bytes) c low (is_open c l e) (goal_there c g)
 
   pub out_is_first : (c o : ℕ) → c < frame.size → o < t.m → SealedBelow t q c → true ≡ (bit_of bytes c && not (code_covered q c)) → (IsGoal (onto f t) (values_by (size_in frame.sizes) f c) → ⊥)
       → Leaves t ss f (bit_of bytes) c o → KeptBelow t q c o → First register_turn (SetWrong t ss f (bit_of bytes)) (LeadsOut c o)
-  out_is_first c o l m low e miss w kept = first_out t q c o low (is_open c l e) (λ h. miss (goal_same c h)) m w kept
+  out_is_first c o l m low e miss w kept = first_out t ss f (bit_of bytes) c o low (is_open c l e) (λ h. miss (goal_same c h)) m w kept

@@ -1,13 +1,20 @@
 // Whether a task is of the variables and sizes that were opened.
-ghost use Rattle.std.specs.Prelude.{◌≡◌, ◌<◌, ◌≢◌};
+ghost use Rattle.std.specs.Prelude.{◌≡◌, ◌<◌, ◌≢◌, Decides};
 ghost use Rattle.model.specs.Orders.{Least};
 ghost use Rattle.frame.specs.Held.{size_in};
 ghost use Rattle.checks.specs.Wrong.{Checks, TaskWrong};
 
 use crate::fault::RegisterFault;
 use frame::measure::sizes_of;
-use task::moves::MAX_VARIABLES;
+use task::moves::{MAX_VARIABLES, size_or_one};
 use task::source::TaskSource;
+
+// Whether the variable v has another size than this.
+fn is_other<S: TaskSource>(source: &S, v: usize, size: u16) -> bool
+    ensures { Decides result (size ≢ (S.TaskSource.task source.now).size v) }
+{
+    size != size_or_one(source, v)
+}
 
 // How many variables a task has, and their sizes: a list in fixed memory, as that of a frame.
 #[derive(Clone, Copy, PartialEq, Eq, Debug)]
@@ -32,7 +39,10 @@ impl Variables {
     fn other_size<S: TaskSource>(&self, source: &S) -> Option<usize>
         ensures { Least (λ v. (v < (S.TaskSource.task source.now).n) × (size_in self.now.sizes v ≢ (S.TaskSource.task source.now).size v)) result }
     {
-        (0..source.variables()).find(|&v| self.sizes.get(v).copied() != source.size(v))
+        self.sizes[..source.variables()]
+            .iter()
+            .enumerate()
+            .position(|(v, size)| is_other(source, v, *size))
     }
 
     // Accepts a task with this many variables of these sizes.

@@ -2,14 +2,12 @@
 use Rattle.std.proofs.Common.{◌≡◌, ℕ, ◌/◌, ◌%◌, ◌<◌, ◌≤◌, true, get_or, sym, ap, ◌∙◌, arith}
 use Rattle.std.proofs.lemmas.Bool.{cond-true}
 use Rattle.model.specs.LeaveOut.{has}
-use Rattle.model.specs.Tasks.{Position}
-use Rattle.model.specs.Frames.{width_by, code_by, values_by}
+use Rattle.model.specs.Frames.{width_by, values_by}
 use Rattle.model.proofs.Masks.{has_below}
 use Rattle.model.proofs.Coding.{width_by_up}
 use Rattle.frame.specs.declared.frame.Frame.{Frame}
 use Rattle.frame.specs.Held.{size_in}
 use Rattle.frame.proofs.Measuring.{size_in_below, size_some}
-use Rattle.frame.proofs.Summing.{code_small}
 
 module _ (f : Frame) (v : ℕ) where
   -- the product of the frame's lower variables is within 1 and the limit
@@ -29,7 +27,3 @@ module _ (f : Frame) (v : ℕ) where
       ap (λ w. code / w % get_or f.sizes v 0) (f.strided v (in_frame e))
       ∙ ap (λ k. code / width_by (size_in f.sizes) f.mask v % k) (sym (size_in_below f.sizes v (omega (arith, in_frame e, f.few))))
       ∙ sym (cond-true (has f.mask v) (code / width_by (size_in f.sizes) f.mask v % size_in f.sizes v) 0 e)
-
--- a code of 16-bit values fits 64 bits
-pub code_fits : (f : Frame) (p : Position) → ((v : ℕ) → p v ≤ 65535) → code_by (size_in f.sizes) f.mask p f.n < 18446744073709551616
-code_fits f p h = omega (arith, code_small (size_in f.sizes) f.mask p f.n h (λ v l. (width_fits f v (omega arith)).1), f.few)

@@ -6,7 +6,6 @@ ghost use Rattle.frame.specs.Held.{size_in};
 ghost use Rattle.frame.specs.Codes.{values_of, code_of};
 
 use crate::frame::Frame;
-use std::array;
 use task::mask::contains;
 use task::moves::MAX_VARIABLES;
 use task::words::word;
@@ -36,10 +35,14 @@ impl Frame {
     pub fn code(&self, values: &[u16]) -> usize
         ensures { result ≡ code_of self.now (position values.now) }
     {
-        (0..self.n)
-            .filter(|v| contains(self.mask, *v))
-            .map(|v| self.digit(values, v))
-            .sum()
+        // A loop, not a sum: it takes half the time.
+        let mut code = 0;
+        for v in 0..self.n {
+            if contains(self.mask, v) {
+                code += self.digit(values, v);
+            }
+        }
+        code
     }
 
     // What the value of the variable v adds to a code: itself times the product of the sizes of the frame's lower variables.
@@ -66,11 +69,11 @@ impl Frame {
     pub fn values(&self, code: usize) -> [u16; MAX_VARIABLES]
         ensures { position result ≡ values_of self.now code }
     {
-        array::from_fn(
-            |v| -> u16
-                ensures { result ≡ values_of self.entry.now code v }
-            { self.value(code, v) },
-        )
+        let mut values = [0; MAX_VARIABLES];
+        for (v, value) in values[..self.n].iter_mut().enumerate() {
+            *value = self.value(code, v);
+        }
+        values
     }
 
     // The code, in a frame that lies inside, of the values that a code of this frame stands for.

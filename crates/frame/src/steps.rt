@@ -8,7 +8,6 @@ ghost use Rattle.frame.specs.Codes.{values_of, code_of};
 ghost use Rattle.frame.specs.Steps.{LeadsTo};
 
 use crate::frame::Frame;
-use std::array;
 use task::mask::kept;
 use task::moves::MAX_VARIABLES;
 use task::source::TaskSource;
@@ -39,9 +38,10 @@ impl Frame {
     fn made<S: TaskSource>(&self, source: &S, o: usize, c: usize) -> usize
         ensures { result ≡ code_of self.now (after (onto self.now.mask (S.TaskSource.task source.now)) o (values_of self.now c)) }
     {
-        let values: [u16; MAX_VARIABLES] = array::from_fn(|v| {
-            kept(self.mask, v, source.made(o, v)).unwrap_or(self.value(c, v))
-        });
+        let mut values = [0; MAX_VARIABLES];
+        for (v, value) in values[..self.n].iter_mut().enumerate() {
+            *value = kept(self.mask, v, source.made(o, v)).unwrap_or(self.value(c, v));
+        }
         self.code(&values)
     }
 

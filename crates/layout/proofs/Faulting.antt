@@ -85,7 +85,7 @@ module _ (ws : List ℕ) (none : (e : CardFault) → CardWrong ws e → ⊥) whe
   ascends k is l = grind (arith, none (BadOrder (next_at ws k)))
 
   -- and its chains are whole
-  clean_card : ((e : CardFault) → CardWrong ws e → ⊥) × IsCard ws × ((k : ℕ) → k ≤ records ws → WholeChain ws k)
+  pub clean_card : ((e : CardFault) → CardWrong ws e → ⊥) × IsCard ws × ((k : ℕ) → k ≤ records ws → WholeChain ws k)
   clean_card = (
     none,
     record { version = version; counts = counts; long = whole; sizes = sizes; starts = starts; heads = heads; nexts = nexts; records = recs; ascends = ascends },

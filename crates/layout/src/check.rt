@@ -1,5 +1,5 @@
 // The tests of a card's words, each of which names the lowest word at fault.
-ghost use Rattle.std.specs.Prelude.{◌≤◌, Decides, MatchResult};
+ghost use Rattle.std.specs.Prelude.{◌≡◌, ◌≤◌, ◌+◌, min, Decides, MatchResult};
 ghost use Rattle.model.specs.Card.{variable_of, next_of};
 ghost use Rattle.model.specs.Orders.{First};
 ghost use Rattle.layout.specs.declared.fault.CardFault.TheVariants.{BadCount, BadSize, BadStart, BadLink, BadRecord, BadOrder};
@@ -76,12 +76,20 @@ fn check_starts(words: &[u16]) -> Result<(), CardFault>
     }
 }
 
+// The number of the record that i others come before: they are numbered from 1. The tests of records go over these i, since a walk over
+// `1..=r` takes twice the time.
+fn record_after(i: u16) -> u16
+    ensures { result ≡ min (i + 1) 65535 }
+{
+    i.saturating_add(1)
+}
+
 // The heads stand side by side, the goal's first.
 fn check_heads(words: &[u16]) -> Result<(), CardFault>
     ensures { TriesOf (WrongHead words.now) BadLink result }
 {
     let goal = goal_at(words);
-    match (goal..=goal + 2 * operators(words)).find(|&i| word(words, i) > records(words)) {
+    match (goal..goal + 2 * operators(words) + 1).find(|&i| word(words, i) > records(words)) {
         Some(i) => Err(CardFault::BadLink(i)),
         None => Ok(()),
     }
@@ -90,8 +98,8 @@ fn check_heads(words: &[u16]) -> Result<(), CardFault>
 fn check_nexts(words: &[u16]) -> Result<(), CardFault>
     ensures { TriesOf (WrongNext words.now) BadLink result }
 {
-    match (1..=records(words)).find(|&k| next_of(words, k) > records(words)) {
-        Some(k) => Err(CardFault::BadLink(record_at(words, k) + 2)),
+    match (0..records(words)).find(|&i| next_of(words, record_after(i)) > records(words)) {
+        Some(i) => Err(CardFault::BadLink(record_at(words, record_after(i)) + 2)),
         None => Ok(()),
     }
 }
@@ -107,13 +115,16 @@ fn check_records(words: &[u16]) -> Result<(), CardFault>
     ensures { Tries words.now BadRecord result }
 {
     let n = variables(words);
-    let wrong = |&k: &u16| {
+    let wrong = |&i: &u16| {
+        let k = record_after(i);
         let v = variable_of(words, k);
         v >= n || value_of(words, k) >= word(words, 4 + v)
     };
-    match (1..=records(words)).find(wrong) {
-        Some(k) if variable_of(words, k) >= n => Err(CardFault::BadRecord(record_at(words, k))),
-        Some(k) => Err(CardFault::BadRecord(record_at(words, k) + 1)),
+    match (0..records(words)).find(wrong) {
+        Some(i) if variable_of(words, record_after(i)) >= n => {
+            Err(CardFault::BadRecord(record_at(words, record_after(i))))
+        }
+        Some(i) => Err(CardFault::BadRecord(record_at(words, record_after(i)) + 1)),
         None => Ok(()),
     }
 }
@@ -129,8 +140,8 @@ fn descends(words: &[u16], k: u16) -> bool
 fn check_order(words: &[u16]) -> Result<(), CardFault>
     ensures { Tries words.now BadOrder result }
 {
-    match (1..=records(words)).find(|&k| descends(words, k)) {
-        Some(k) => Err(CardFault::BadOrder(record_at(words, k) + 2)),
+    match (0..records(words)).find(|&i| descends(words, record_after(i))) {
+        Some(i) => Err(CardFault::BadOrder(record_at(words, record_after(i)) + 2)),
         None => Ok(()),
     }
 }

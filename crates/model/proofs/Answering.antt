@@ -23,7 +23,7 @@ same_task t u (n, m, size, needed, made, start, goal) = λ i. record {
   goal = λ v. goal v i;
 }
 
-alike_same : (t u : Task) → Lawful t → Lawful u → Alike t u → t ≡ u
+pub alike_same : (t u : Task) → Lawful t → Lawful u → Alike t u → t ≡ u
 alike_same t u law-t law-u e = same_task t u (
   e.variables,
   e.operators,

@@ -19,15 +19,15 @@ pick c (suc n) (suc k) = cond (eqb (c % 2) 1) (map (λ f. 2 * f + 1) (pick (c / 
 
 -- ---- what a list has
 
-in_append : (x : ℕ) (a b : List ℕ) → In x (a ++ b) ↔ (In x a ⊎ In x b)
+pub in_append : (x : ℕ) (a b : List ℕ) → In x (a ++ b) ↔ (In x a ⊎ In x b)
 in_append x [] b = grind arith
 in_append x (y ∷ a) b = grind (arith, in_append x a b)
 
-in_odd : (x : ℕ) (a : List ℕ) → In x (map (λ f. 2 * f + 1) a) ↔ ((x % 2 ≡ 1) × In (x / 2) a)
+pub in_odd : (x : ℕ) (a : List ℕ) → In x (map (λ f. 2 * f + 1) a) ↔ ((x % 2 ≡ 1) × In (x / 2) a)
 in_odd x [] = grind arith
 in_odd x (y ∷ a) = grind (arith, in_odd x a)
 
-in_even : (x : ℕ) (a : List ℕ) → In x (map (λ f. 2 * f) a) ↔ ((x % 2 ≡ 0) × In (x / 2) a)
+pub in_even : (x : ℕ) (a : List ℕ) → In x (map (λ f. 2 * f) a) ↔ ((x % 2 ≡ 0) × In (x / 2) a)
 in_even x [] = grind arith
 in_even x (y ∷ a) = grind (arith, in_even x a)
 
@@ -72,7 +72,7 @@ picks c n k f = (in_pick c n k f).1
 -- ---- the order of ascending lists
 
 -- as many members as set bits
-members_length : (n f : ℕ) → f < 2 ^ n → length (members n f) ≡ ones f
+pub members_length : (n f : ℕ) → f < 2 ^ n → length (members n f) ≡ ones f
 members_length zero f h = omega (arith, ones-le 0 f h)
 members_length (suc n) f h = grind (arith, nat_tests, length-map (members n (f / 2)) suc, members_length n (f / 2), ones_step f)
 

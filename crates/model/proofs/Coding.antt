@@ -20,7 +20,7 @@ code_kept t f p = code_below_kept t f p t.n
 
 -- ---- a code is below the frame's size
 
-code_below_below : (t : Task) (f : ℕ) (p : Position) → Legal (onto f t) p → (v : ℕ) → code_below t f p v < width t f v
+pub code_below_below : (t : Task) (f : ℕ) (p : Position) → Legal (onto f t) p → (v : ℕ) → code_below t f p v < width t f v
 code_below_below t f p h zero = omega arith
 code_below_below t f p h (suc v) =
     grind (arith, code_below_below t f p h v, h v, mul-add-lt (p v) (width t f v) (code_below t f p v) (t.size v))
@@ -40,7 +40,7 @@ module _ (t : Task) (law : Lawful t) (f : ℕ) where
   pub width_up : (v w : ℕ) → v ≤ w → width t f v ≤ width t f w
   width_up v w h = width_by_up t.size f (λ u. (law.sizes u).0) v w h
 
-  width_pos : (v : ℕ) → 0 < width t f v
+  pub width_pos : (v : ℕ) → 0 < width t f v
   width_pos v = width_up 0 v (omega arith)
 
   pub values_legal : (c : ℕ) → Legal (onto f t) (values t f c)

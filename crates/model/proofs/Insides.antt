@@ -14,13 +14,13 @@ pub inside_strictly : (g f : ℕ) → T (strictly_inside g f) → T (inside g f)
 inside_strictly g f h = grind arith
 
 -- a variable of the inner set is one of the outer
-has_inside : (g f v : ℕ) → T (inside g f) → T (has g v) → T (has f v)
+pub has_inside : (g f v : ℕ) → T (inside g f) → T (has g v) → T (has f v)
 has_inside g f v i h = grind (arith, nat_tests, bit_at_and g f v)
 
 -- ---- the projection of a projection
 
 module _ (g f : ℕ) (t : Task) (i : T (inside g f)) where
-  onto_onto : onto g (onto f t) ≡ onto g t
+  pub onto_onto : onto g (onto f t) ≡ onto g t
   onto_onto =
       let outer : (v : ℕ) → T (has g v) → T (has f v) = λ v. has_inside g f v i in
       same_task (onto g (onto f t)) (onto g t) (grind arith)

@@ -126,7 +126,7 @@ choose_over (suc a) zero h = absurd (omega arith)
 choose_over (suc a) (suc k) h = omega (arith, choose_more a k, choose_over a k (omega arith), choose_over a (suc k) (omega arith))
 
 -- the table's answer, which is 0 past its end
-counted : (a k : ℕ) → a ≤ 32 → cond (ltb a 33 && ltb k 33) (length (choose a k)) 0 ≡ length (choose a k)
+pub counted : (a k : ℕ) → a ≤ 32 → cond (ltb a 33 && ltb k 33) (length (choose a k)) 0 ≡ length (choose a k)
 counted a k h = grind (arith, nat_tests, choose_over a k)
 
 -- how many sets of candidates there are, from the table and within 32 bits

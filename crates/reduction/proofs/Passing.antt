@@ -11,7 +11,7 @@ use Rattle.model.specs.Stack.{Layering}
 -- `all` passes a value through a list of layers
 module _ {A : Type 0} (all : List Layering → A → A) (none : (x : A) → x ≡ all [] x) (first : (l : Layering) (ls : List Layering) (x : A) → all (l ∷ ls) x ≡ all ls (all (l ∷ []) x)) where
   -- through one layer more, on top
-  more : (ls : List Layering) (l : Layering) (x : A) → all (ls ++ (l ∷ [])) x ≡ all (l ∷ []) (all ls x)
+  pub more : (ls : List Layering) (l : Layering) (x : A) → all (ls ++ (l ∷ [])) x ≡ all (l ∷ []) (all ls x)
   more [] l x = ap (all (l ∷ [])) (none x)
   more (j ∷ ls) l x = first j (ls ++ (l ∷ [])) x ∙ more ls l (all (j ∷ []) x) ∙ ap (all (l ∷ [])) (sym (first j ls x))
 

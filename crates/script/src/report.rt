@@ -39,10 +39,8 @@ fn show<R: Print, S: TaskSource>(rt: &R, source: &S) -> io::Result<()> {
     }
     for o in 0..m {
         print!(rt; "operator {o}: needs")?;
-        wanted(rt, n, |v| source.needed(o, v))?;
-        print!(rt; ", makes")?;
-        wanted(rt, n, |v| source.made(o, v))?;
-        println!(rt; "")?;
+        wanted(rt, n, |v| source.needed(o, v), ", makes")?;
+        wanted(rt, n, |v| source.made(o, v), "\n")?;
     }
     Ok(())
 }
@@ -50,25 +48,30 @@ fn show<R: Print, S: TaskSource>(rt: &R, source: &S) -> io::Result<()> {
 fn variable<R: Print, S: TaskSource>(rt: &R, source: &S, v: usize) -> io::Result<()> {
     let size = size_or_one(source, v);
     let start = source.start(v).unwrap_or(0);
-    print!(rt; "variable {v}: size {size}, start {start}")?;
-    if let Some(x) = source.goal(v) {
-        print!(rt; ", goal {x}")?;
+    // The line whole, since each print is a write.
+    match source.goal(v) {
+        Some(x) => println!(rt; "variable {v}: size {size}, start {start}, goal {x}"),
+        None => println!(rt; "variable {v}: size {size}, start {start}"),
     }
-    println!(rt; "")
 }
 
-// The values that there are of n variables.
-fn wanted<R: Print, F: Fn(usize) -> Option<u16>>(rt: &R, n: usize, value: F) -> io::Result<()>
+// The values that there are of n variables, and what ends their list.
+fn wanted<R: Print, F: Fn(usize) -> Option<u16>>(
+    rt: &R,
+    n: usize,
+    value: F,
+    end: &str,
+) -> io::Result<()>
     requires { F.IsAlwaysCallable value }
 {
     let mut values = (0..n).filter_map(|v| Some((v, value(v)?))).peekable();
     if values.peek().is_none() {
-        return print!(rt; " nothing");
+        return print!(rt; " nothing{end}");
     }
     for (v, x) in values {
         print!(rt; " v{v}={x}")?;
     }
-    Ok(())
+    print!(rt; "{end}")
 }
 
 // How the operators go, and the position that each of them leads to.

@@ -8,9 +8,11 @@ use Rattle.layout.proofs.words.walk.Goals as goal
 pub returns : goal.returns
 returns c =
     let find = c.find.ensures.runs in
-    let while = c.take_while.ensures.runs find.0 find.0.seen find.1 in
-    let take = c.take.ensures.runs while.0 while.0.seen while.1 in
+    let take = c.take.ensures.runs find.0 find.0.seen find.1 in
     let next = c.successors.ensures.runs take.1.0 take.1.0.seen take.1.1 in
-    let all = scanned c.args.words.now c.args.first c.args.most c.args.v find.0 while.0 take.1.0 _ _ _ while.2 (take.0, take.1.2) next (λ a r q k. search (rules, tests)) (λ x k. search (rules, tests)) (λ x q k. search (rules, tests)) (λ a r q k. search (rules, tests)) (λ x y k. search (rules, tests)) (λ x k. search (rules, tests)) (λ a r q k. search (rules, tests)) (λ x k. search (rules, tests)) (λ x k. search (rules, tests)) c.find.result find.2 in
     let map : c.map.result ≡ option_map (λ k. value_of c.args.words.now k) c.find.result = search rules in
-    map ∙ all
+    map ∙ scanned c.args.words.now c.args.first c.args.most c.args.v c.record.result c.record.ensures find.0 take.1.0 _ _
+    (take.0, take.1.2) next (λ a r q k. search (rules, tests))
+    (λ x y k. search (rules, tests)) (λ x k. search (rules, tests))
+    (λ a r q k. search (rules, tests)) (λ x k. search (rules, tests)) (λ x k. search (rules, tests))
+    c.find.result find.2
