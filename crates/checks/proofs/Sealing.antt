@@ -50,6 +50,8 @@ module _ (t : Task) (ss : List shelves.Shelf) (f : ℕ) (set : ℕ → Bool) whe
       go _ (meets k p' h) e = grind (arith, low k)
       go _ (leads k u p' m v) e = grind (arith, low k, least u)
 
+-- ---- what the tests of a code tell
+
 module _ (t : Task) (law : Lawful t) (q : Claim) (fits : Fits t q.frame.now q.shelves.records.now) where
   abbrev frame : Frame
   frame = q.frame.now

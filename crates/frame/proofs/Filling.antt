@@ -1,4 +1,4 @@
--- A list that a closure fills, variable by variable.
+-- Lists of values, one for each variable: as a closure fills them, and as a loop writes them into a list of zeros.
 use Rattle.std.proofs.Common.{◌≡◌, ℕ, zero, suc, ◌+◌, ◌-◌, ◌<◌, ◌≤◌, List, ◌++◌, length, get_or, set, drop, replicate, ap, ◌∙◌, subst, ⊎_elim, sym, arith}
 use Rattle.std.specs.Fn.{Called, Mut}
 use Rattle.std.specs.Array.{IsFromFnResult, IsFromFnResultFrom}

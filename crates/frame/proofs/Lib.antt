@@ -3,5 +3,5 @@ pub mod Faulting
 pub mod Filling
 pub mod Stepping
 pub mod Asking
-pub mod Summing
+pub mod Bounding
 pub mod Framed

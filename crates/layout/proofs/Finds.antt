@@ -2,6 +2,11 @@
 use Rattle.std.proofs.Common.{◌≡◌, ℕ, ◌+◌, ◌-◌, ◌<◌, ◌≤◌, min, Some, None, Option, subst, arith}
 use Rattle.std.specs.Prelude.{MatchOption}
 
+-- the answer of a search over m records, by a number that is one less than the record's: Yes of the record that it found and No of all
+-- before it, or No of all where it found none
+abbrev pub Finds : ℕ → (ℕ → Type 0) → (ℕ → Type 0) → Option ℕ → Type 0
+Finds m Yes No r = MatchOption r ((k : ℕ) → 1 ≤ k → k ≤ m → No k) (λ i. (i < m) × (min (i + 1) 65535 ≡ i + 1) × Yes (i + 1) × ((k : ℕ) → 1 ≤ k → k ≤ i → No k))
+
 module _ (m : ℕ) (few : m ≤ 65535) (Yes No : ℕ → Type 0) where
   before : (i : ℕ) → i < m → min (i + 1) 65535 ≡ i + 1
   before i h = omega (arith, few)
@@ -13,6 +18,6 @@ module _ (m : ℕ) (few : m ≤ 65535) (Yes No : ℕ → Type 0) where
       subst No e (h i (omega arith) (omega arith))
 
   pub first_record : (r : Option ℕ) → MatchOption r ((i : ℕ) → 0 ≤ i → i < m → No (min (i + 1) 65535)) (λ i. (0 ≤ i) × (i < m) × Yes (min (i + 1) 65535) × ((j : ℕ) → 0 ≤ j → j < i → No (min (j + 1) 65535)))
-      → MatchOption r ((k : ℕ) → 1 ≤ k → k ≤ m → No k) (λ i. (i < m) × (min (i + 1) 65535 ≡ i + 1) × Yes (i + 1) × ((k : ℕ) → 1 ≤ k → k ≤ i → No k))
+      → Finds m Yes No r
   first_record None h = λ k low high. none_from k m (omega arith) h low high
   first_record (Some i) h = (h.1, before i h.1, subst Yes (before i h.1) h.2, λ k low high. none_from k i (omega (arith, h.1)) h.3 low high)

@@ -1,3 +1,2 @@
 pub mod Faulting
 pub mod Finds
-pub mod Walking

@@ -16,7 +16,7 @@ module _ {A : Type 0} (all : List Layering → A → A) (none : (x : A) → x �
   more (j ∷ ls) l x = first j (ls ++ (l ∷ [])) x ∙ more ls l (all (j ∷ []) x) ∙ ap (all (l ∷ [])) (sym (first j ls x))
 
   -- through the layers ys, and then through l
-  passed_more : {L : Type 0} (layering : L → Layering) (layers : List Layering) (ys : List L) (l : L) (x y z : A) → layers ≡ layering l ∷ [] → y ≡ all (map layering ys) x → z ≡ all layers y → z ≡ all (map layering (ys ++ (l ∷ []))) x
+  pub passed_more : {L : Type 0} (layering : L → Layering) (layers : List Layering) (ys : List L) (l : L) (x y z : A) → layers ≡ layering l ∷ [] → y ≡ all (map layering ys) x → z ≡ all layers y → z ≡ all (map layering (ys ++ (l ∷ []))) x
   passed_more layering layers ys l x y z e h k =
       k
       ∙ ap (λ ls. all ls y) e

@@ -1,18 +1,39 @@
-use Rattle.std.proofs.Common.{rules, ◌≡◌, ◌∙◌}
-use borrow.Author.Tests.{tests}
-use Rattle.std.specs.Option.{option_map}
-use Rattle.model.specs.Card.{value_of}
-use Rattle.layout.proofs.Walking.{scanned}
+use Rattle.std.proofs.Common.{◌≡◌, suc, ◌+◌, ◌-◌, ◌≤◌, Some, sym, ap, ◌∙◌, arith}
+use Rattle.model.specs.Card.{chain, value_in}
+use Rattle.model.proofs.Chains.{walk_end, walk_here, walk_on}
 use Rattle.layout.proofs.words.walk.Goals as goal
+
+pub loop-step-init : goal.loop-step-init
+loop-step-init c =
+    let ws = c.args.words.now in
+    let e : c.args.most ≡ c.args.most - 0 = omega arith in
+    ap (λ i. value_in ws (chain i ws c.args.first) c.args.v) e
+
+pub returns-then-k-eq0 : goal.returns-then-k-eq0
+returns-then-k-eq0 c =
+    let ws = c.args.words.now in
+    let i = c.args.most - c.loop-step._step in
+    sym (c.loop-step.invariant ∙ ap (λ k. value_in ws (chain i ws k) c.args.v) c.if-k-eq0.true ∙ walk_end ws c.args.v i)
+
+pub returns-then-variable_of-v : goal.returns-then-variable_of-v
+returns-then-variable_of-v c =
+    let i = c.args.most - c.loop-step._step in
+    ap Some c.value_of.ensures
+    ∙ sym (c.loop-step.invariant ∙ walk_here c.args.words.now c.loop-step.k c.args.v i (omega (arith, c.loop-step-test.true)) (omega (arith, c.if-k-eq0.false)) (sym c.variable_of.ensures ∙ c.if-variable_of-v.true))
+
+pub loop-step-preserved : goal.loop-step-preserved
+loop-step-preserved c =
+    let ws = c.args.words.now in
+    let i = c.args.most - c.loop-step._step in
+    let j = c.args.most - (c.loop-step._step + 1) in
+    let e : i ≡ suc j = omega (arith, c.loop-step-test.true) in
+    let low : 1 ≤ c.loop-step.k = omega (arith, c.if-k-eq0.false) in
+    c.loop-step.invariant
+    ∙ walk_on ws c.loop-step.k c.args.v i j e low (λ q. c.if-variable_of-v.false (c.variable_of.ensures ∙ q))
+    ∙ ap (λ k. value_in ws (chain j ws k) c.args.v) (sym c.next_of-k.ensures)
 
 pub returns : goal.returns
 returns c =
-    let find = c.find.ensures.runs in
-    let take = c.take.ensures.runs find.0 find.0.seen find.1 in
-    let next = c.successors.ensures.runs take.1.0 take.1.0.seen take.1.1 in
-    let map : c.map.result ≡ option_map (λ k. value_of c.args.words.now k) c.find.result = search rules in
-    map ∙ scanned c.args.words.now c.args.first c.args.most c.args.v c.record.result c.record.ensures find.0 take.1.0 _ _
-    (take.0, take.1.2) next (λ a r q k. search (rules, tests))
-    (λ x y k. search (rules, tests)) (λ x k. search (rules, tests))
-    (λ a r q k. search (rules, tests)) (λ x k. search (rules, tests)) (λ x k. search (rules, tests))
-    c.find.result find.2
+    let ws = c.args.words.now in
+    let none : c.args.most - c.loop-step._step ≡ 0 = omega (arith, c.loop-step-test.false) in
+    sym (c.loop-step.invariant ∙ ap (λ i. value_in ws (chain i ws c.loop-step.k) c.args.v) none)

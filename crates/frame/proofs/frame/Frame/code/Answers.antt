@@ -4,7 +4,7 @@ use Rattle.model.specs.Tasks.{position}
 use Rattle.model.specs.Frames.{width_by}
 use Rattle.frame.specs.Held.{size_in}
 use Rattle.frame.proofs.Framed.{width_fits}
-use Rattle.frame.proofs.Summing.{code_small}
+use Rattle.frame.proofs.Bounding.{code_small}
 use Rattle.frame.proofs.frame.Frame.code.Goals as goal
 
 pub overflow_add-code : goal.overflow_add-code

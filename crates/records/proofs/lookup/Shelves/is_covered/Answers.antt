@@ -12,5 +12,6 @@ pub returns : goal.returns
 returns c =
     let s = c.args.self.now in
     let p = position c.args.values.now in
-    any_from_yields_List (λ r. strictly_inside r.frame.mask c.args.mask && on s.pool.now r p) _ _ _ c.any.ensures.ran (YieldsList-from_slice s.records.now cc) (λ x b q k. search (rules, tests))
-    ∙ covered_any s.pool.now s.records.now c.args.mask p
+    let any = any_from_yields_List (λ r. strictly_inside r.frame.mask c.args.mask && on s.pool.now r p) _ _ _ c.any.ensures.ran (YieldsList-from_slice s.records.now cc) (λ x b q k. search (rules, tests)) in
+    let told = any ∙ covered_any s.pool.now s.records.now c.args.mask p in
+    search rules
