@@ -65,11 +65,11 @@ pub(crate) fn next_of(words: &[u16], k: u16) -> u16
     word(words, record_at(words, k) + 2)
 }
 
-// The value of v among the first `most` records of the chain at `first`. A loop: as a chain of iterators it took half as long again over
-// long chains.
+// The value of v among the first `most` records of the chain at `first`.
 fn walk(words: &[u16], first: u16, most: usize, v: usize) -> Option<u16>
     ensures { result ≡ value_in words.now (chain most words.now first) v }
 {
+    // A loop, not a chain of iterators: it takes less time.
     let mut k = first;
     for _step in 0..most {
         if k == 0 {
