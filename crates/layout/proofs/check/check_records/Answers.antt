@@ -1,8 +1,7 @@
-use Rattle.std.proofs.Common.{rules, ℕ, ◌+◌, min, ◌<◌, ◌≤◌, ◌⊎◌}
+use Rattle.std.proofs.Common.{rules, ℕ, ◌+◌, ◌<◌, ◌≤◌, ◌⊎◌}
 use borrow.Author.Tests.{tests}
-use Rattle.std.proofs.lemmas.Iterator.{first_from_Range}
 use Rattle.model.specs.Card.{word, variables, variable_of, value_of}
-use Rattle.layout.proofs.Finds.{Finds, first_record}
+use Rattle.layout.proofs.Finds.{Finds, record_found}
 use Rattle.layout.proofs.check.check_records.Goals as goal
 use Rattle.layout.proofs.check.check_records.Goals.{After-find}
 
@@ -13,9 +12,7 @@ abbrev No : After-find → ℕ → Type 0
 No c k = let ws = c.args.words.now in (variable_of ws k < variables ws) × (value_of ws k < word ws (4 + variable_of ws k))
 
 searched : (c : After-find) → Finds c.records.result (Yes c) (No c) c.find.result
-searched c =
-    let found = first_from_Range _ _ _ _ (λ i. Yes c (min (i + 1) 65535)) (λ i. No c (min (i + 1) 65535)) c.find.ensures.ran (λ x q k. search (rules, tests)) (λ x q k. search (rules, tests)) in
-    first_record c.records.result (search rules) (Yes c) (No c) c.find.result found
+searched c = record_found c.records.result (search rules) (Yes c) (No c) _ _ c.find.result c.find.ensures.ran (λ x q k. search (rules, tests)) (λ x q k. search (rules, tests))
 
 pub returns-in-Some : goal.returns-in-Some
 returns-in-Some c =
